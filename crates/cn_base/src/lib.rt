@@ -1,0 +1,21 @@
+//! What every layer stands on: bytes, texts and lists that contracts see as lists, and the outside, whose calls fail only where a
+//! count of faults rose.
+#![tactic(auto)]
+
+mod bytes;
+mod copied;
+mod memory;
+mod outside;
+mod standard;
+mod steady;
+mod text;
+
+pub use bytes::Bytes;
+pub use copied::Copied;
+pub use memory::{MemorySink, MemorySource};
+pub use outside::{Failed, Sink, Source, write_all};
+pub use sqlite_items::{Boxed, Items as List};
+pub use standard::{StdSink, StdSource};
+pub use std::alloc::AllocError as OutOfMemory;
+pub use steady::{SteadySink, SteadySource};
+pub use text::Text;
