@@ -1,0 +1,6 @@
+-- What `replay` reads, plays and prints.
+pub mod Ask
+pub mod Range
+pub mod Section
+pub mod Outcome
+pub mod Exit
