@@ -1,5 +1,6 @@
 pub mod Counts
 pub mod Lines
 pub mod Numbers
+pub mod Told
 pub mod Walk
 pub mod Written

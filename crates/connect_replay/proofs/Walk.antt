@@ -1,12 +1,12 @@
 -- What a walk over a range keeps.
-use Rattle.std.proofs.Common.{◌≡◌, ◌≢◌, ℕ, zero, suc, ◌+◌, ◌-◌, ◌<◌, ◌≤◌, ◌^◌, ℤ, pos, negsuc, ◌+ℤ◌, ◌<ℤ◌, List, [], ◌∷◌, ◌++◌, length, refl, ap, sym, ◌∙◌, arith, inl, inr, ◌⊎◌, ⊎_elim, subst, min, cond, ◌-ℤ◌, length-append}
+use Rattle.std.proofs.Common.{◌≡◌, ◌≢◌, ℕ, suc, ◌+◌, ◌-◌, ◌<◌, ◌≤◌, ◌^◌, ℤ, pos, negsuc, ◌+ℤ◌, ◌<ℤ◌, List, [], ◌∷◌, ◌++◌, length, refl, ap, sym, ◌∙◌, arith, inl, inr, ◌⊎◌, ⊎_elim, subst, min, cond, ◌-ℤ◌, length-append}
 use Rattle.std.proofs.lemmas.Bool.{cases_lt}
 use Rattle.std.proofs.lemmas.Int.{ints}
 use Rattle.std.specs.Int.{saturate_signed, w64}
 use mir.Val.{SFits}
 use lib.Signed.{lt_z}
 use borrow.Author.Differences.{up}
-use Rattle.connect_replay.specs.Range.{number_at, IsBefore, IsNumberOf, IsRange, count_of}
+use Rattle.connect_replay.specs.Range.{number_at, IsBefore, IsRange, count_of}
 use Rattle.connect_replay.proofs.Numbers.{IsBefore-earlier, goes}
 use Rattle.connect_replay.proofs.Counts.{firsts, count-one, place-found}
 

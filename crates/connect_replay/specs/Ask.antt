@@ -1,5 +1,5 @@
 -- The line of an ask: `ask NAME range A B C`, with an LF or without.
-use Rattle.std.specs.Prelude.{◌≡◌, ◌≢◌, ◌⊎◌, ℕ, ◌<◌, ◌≤◌, Bool, ◌&&◌, ◌||◌, ◌==◌, nat_le, IsTrue, ℤ, pos, List, ◌∷◌, [], ◌++◌, length, All, codes, FitsSigned}
+use Rattle.std.specs.Prelude.{◌≡◌, ◌≢◌, ◌⊎◌, ℕ, ◌<◌, ◌≤◌, Bool, ◌&&◌, ◌||◌, ◌==◌, nat_le, IsTrue, pos, List, ◌∷◌, [], ◌++◌, length, All, codes, FitsSigned}
 use Rattle.std.specs.Int.{w64}
 use Rattle.std.specs.List.{join_with_byte}
 use Rattle.std.specs.Fmt.{signed_decimal}
@@ -45,3 +45,12 @@ IsNoLine line = (ask : Ask) → IsAsk ask → line ≡ spelled ask → ⊥
 -- a text without spaces
 abbrev pub IsPlain : List ℕ → Type 0
 IsPlain text = All (λ b. b ≢ 32) text
+
+-- no ask has this script
+abbrev pub IsNoScript : List ℕ → Type 0
+IsNoScript script = (ask : Ask) → Spells script ask → ⊥
+
+-- a text's line is the text without an LF at its end
+pub record IsLineOf (text line : List ℕ) : Type 0 where
+  pub either : (text ≡ line) ⊎ (text ≡ line ++ 10 ∷ [])
+  pub stripped : (front : List ℕ) → text ≡ front ++ 10 ∷ [] → line ≡ front

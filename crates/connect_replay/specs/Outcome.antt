@@ -4,7 +4,7 @@ use Rattle.cn_base.specs.Outside.{Adds, AddsPart}
 use Rattle.connect_replay.specs.declared.ask.Ask.{Ask}
 use Rattle.connect_replay.specs.declared.status.ReplayStatus.{ReplayStatus}
 use Rattle.connect_replay.specs.declared.status.ReplayStatus.TheVariants.{Done, BadWords, BadScript, ReadFault, WriteFault, OutOfMemory}
-use Rattle.connect_replay.specs.Ask.{Spells}
+use Rattle.connect_replay.specs.Ask.{Spells, IsNoScript}
 use Rattle.connect_replay.specs.Range.{IsRange}
 use Rattle.connect_replay.specs.Section.{section}
 
@@ -15,10 +15,6 @@ pub record PrintsSection (script : Option (List ℕ)) (out : List ℕ) : Type 0 
   pub numbers : List ℤ
   pub rows : IsRange ask.start ask.end ask.step numbers
   pub out_is : out ≡ section ask numbers
-
--- no ask has this script
-abbrev pub IsNoScript : List ℕ → Type 0
-IsNoScript bytes = (ask : Ask) → Spells bytes ask → ⊥
 
 -- these words and this script, where it is told, let a run print this and end with this answer
 abbrev pub Prints : List (List ℕ) → Option (List ℕ) → ReplayStatus → List ℕ → Type 0

@@ -1,5 +1,5 @@
 -- The numbers of a range, from its start by its step before its end.
-use Rattle.std.specs.Prelude.{◌≡◌, ℕ, zero, suc, ◌<◌, ℤ, pos, ◌+ℤ◌, ◌<ℤ◌, List, ◌∷◌, [], map, count_by}
+use Rattle.std.specs.Prelude.{◌≡◌, ℕ, zero, suc, ◌<◌, ℤ, pos, ◌+ℤ◌, ◌<ℤ◌, List, ◌∷◌, [], count_by}
 use Rattle.std.specs.Ordering.{int_eq}
 use Rattle.cn_types.specs.declared.row.Row.{Row}
 use Rattle.cn_types.specs.declared.value.Value.TheVariants.{Long}

@@ -4,7 +4,7 @@ ghost use Rattle.std.specs.Fmt.{signed_decimal};
 ghost use Rattle.std.specs.String.{string_bytes};
 ghost use Rattle.std.specs.List.{join_with_byte};
 ghost use Rattle.connect_replay.specs.declared.ask.Ask.{Ask};
-ghost use Rattle.connect_replay.specs.Ask.{is_word_byte, IsAsk, IsName, IsNoLine, IsPlain, spelled};
+ghost use Rattle.connect_replay.specs.Ask.{is_word_byte, IsAsk, IsName, IsNoLine, IsNoScript, IsLineOf, Spells, IsPlain, spelled};
 ghost use Rattle.connect_replay.specs.Range.{IsBefore, number_at};
 
 use cn_base::{OutOfMemory, Text};
@@ -28,8 +28,25 @@ struct LineParts<'a> {
     step: &'a str,
 }
 
+/// The ask that this script spells, or None where it spells none.
+pub fn parse_script(alloc: Global, script: &[u8]) -> Result<Option<Ask>, OutOfMemory>
+    ensures { IfOk result (λ found. MatchOption found (IsNoScript script.now) (Spells script.now)) }
+{
+    match str::from_utf8(script) {
+        Ok(text) => parse_ask(alloc, without_last_lf(text)),
+        Err(_) => Ok(None),
+    }
+}
+
+/// The text without an LF at its end.
+fn without_last_lf(text: &str) -> &str
+    ensures { IsLineOf text.now result.now }
+{
+    text.strip_suffix('\n').unwrap_or(text)
+}
+
 /// The ask that this line spells, or None where it spells none.
-pub fn parse_ask(alloc: Global, line: &str) -> Result<Option<Ask>, OutOfMemory>
+fn parse_ask(alloc: Global, line: &str) -> Result<Option<Ask>, OutOfMemory>
     ensures { IfOk result (λ found. MatchOption found (IsNoLine line.now) (λ ask. IsAsk ask × (line.now ≡ spelled ask))) }
 {
     let Some(ask) = only_candidate(alloc, line)? else {

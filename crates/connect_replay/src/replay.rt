@@ -1,9 +1,10 @@
 ghost use Rattle.std.specs.Prelude.{◌≡◌, ◌≤◌, ◌⊎◌, [], ℕ, List, Option, Some, IfOk, MatchOption};
 ghost use Rattle.std.specs.Io.KnownBytes.{IsAtEnd};
 ghost use Rattle.cn_base.specs.Outside.{Rose};
-ghost use Rattle.connect_replay.specs.Outcome.{Leaves, Prints, PrintsSection, IsNoScript};
+ghost use Rattle.connect_replay.specs.Ask.{IsNoScript};
+ghost use Rattle.connect_replay.specs.Outcome.{Leaves, Prints, PrintsSection};
 
-use crate::ask::parse_ask;
+use crate::ask::parse_script;
 use crate::range::range_numbers;
 use crate::reading::read_start;
 use crate::section::section_text;
@@ -63,11 +64,7 @@ fn finish<K: Sink>(output: &mut K, text: &str, status: ReplayStatus) -> ReplaySt
 fn play(alloc: Global, script: &[u8]) -> Result<Option<Text>, OutOfMemory>
     ensures { IfOk result (λ found. MatchOption found (IsNoScript script.now) (λ text. PrintsSection (Some script.now) text)) }
 {
-    let Ok(script) = str::from_utf8(script) else {
-        return Ok(None);
-    };
-    let line = script.strip_suffix('\n').unwrap_or(script);
-    let Some(ask) = parse_ask(alloc, line)? else {
+    let Some(ask) = parse_script(alloc, script)? else {
         return Ok(None);
     };
     let numbers = range_numbers(alloc, ask.start, ask.end, ask.step)?;

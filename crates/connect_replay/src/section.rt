@@ -1,4 +1,6 @@
-ghost use Rattle.std.specs.Prelude.{◌≡◌, IfOk};
+ghost use Rattle.std.specs.Prelude.{◌≡◌, ◌++◌, IfOk, OnOk};
+ghost use Rattle.cn_types.specs.Printed.{row_line};
+ghost use Rattle.connect_replay.specs.Range.{row_of};
 ghost use Rattle.connect_replay.specs.Section.{range_schema, section};
 
 use crate::ask::Ask;
@@ -29,9 +31,16 @@ pub fn section_text(alloc: Global, ask: &Ask, numbers: &[i64]) -> Result<Text, O
     text.append("\n")?;
     text.append(header_text(alloc, &schema_of_range(alloc)?)?.as_str())?;
     for number in numbers {
-        let row = number_row(alloc, *number)?;
-        text.append(row_text(alloc, &row)?.as_str())?;
+        append_row(alloc, &mut text, *number)?;
     }
     text.append("complete\nrecords 1\n")?;
     Ok(text)
+}
+
+/// Adds the line of a number's row.
+fn append_row(alloc: Global, text: &mut Text, number: i64) -> Result<(), OutOfMemory>
+    ensures { OnOk result (text.new ≡ text.old ++ row_line (row_of number)) }
+{
+    let row = number_row(alloc, number)?;
+    text.append(row_text(alloc, &row)?.as_str())
 }

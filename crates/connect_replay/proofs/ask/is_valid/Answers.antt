@@ -1,4 +1,4 @@
-use Rattle.std.proofs.Common.{◌≡◌, ◌≢◌, pos, rules, arith, refl, subst, List, ℕ}
+use Rattle.std.proofs.Common.{◌≢◌, pos, rules, arith}
 use Rattle.std.specs.Int.{w64}
 use mir.Val.{SFits}
 use Rattle.std.proofs.lemmas.Int.{ints, to_z-of_z}

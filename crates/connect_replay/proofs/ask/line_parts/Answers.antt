@@ -1,4 +1,4 @@
-use Rattle.std.proofs.Common.{◌≡◌, ◌∙◌, List, ◌∷◌, []}
+use Rattle.std.proofs.Common.{◌∷◌, []}
 use Rattle.std.specs.List.{join_with_byte}
 use Rattle.std.specs.Prelude.{codes}
 use Rattle.connect_replay.proofs.Lines.{ask_plain, range_plain}

@@ -1,4 +1,4 @@
-use Rattle.std.proofs.Common.{◌≡◌, ◌≢◌, ℕ, List, lit<, Option}
+use Rattle.std.proofs.Common.{◌≡◌, ◌≢◌, ℕ, List, lit<}
 use Rattle.std.specs.Borrow.{Bor}
 use Rattle.std.proofs.lemmas.List.Elements.{All-get_or}
 use Rattle.std.proofs.lemmas.Str.Pattern.{split_after}

@@ -1,4 +1,3 @@
-use Rattle.std.proofs.Common.{ℤ, Some, ◌≡◌, ap, ◌∙◌}
 use Rattle.std.specs.Int.{w64}
 use Rattle.std.proofs.lemmas.Int.{to_z-of_z}
 use Rattle.connect_replay.proofs.ask.numbers_of.Goals as goal

@@ -1,4 +1,4 @@
-use Rattle.std.proofs.Common.{◌≡◌, ap, sym, ◌∙◌, Some, ℤ}
+use Rattle.std.proofs.Common.{ap, ◌∙◌, Some}
 use Rattle.std.specs.Int.{w64}
 use Rattle.std.proofs.lemmas.Int.{to_z-of_z}
 use Rattle.connect_replay.specs.declared.ask.Ask.{Ask}

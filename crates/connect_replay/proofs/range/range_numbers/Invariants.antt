@@ -1,4 +1,4 @@
-use Rattle.std.proofs.Common.{ℤ, ◌-ℤ◌, pos, cond}
+use Rattle.std.proofs.Common.{◌-ℤ◌, pos, cond}
 use lib.Signed.{lt_z}
 use borrow.Author.Differences.{up}
 use Rattle.connect_replay.proofs.Walk.{IsWalked}
