@@ -8,6 +8,8 @@ mod memory;
 mod outside;
 mod standard;
 mod steady;
+#[cfg(test)]
+mod tests;
 mod text;
 
 pub use bytes::Bytes;

@@ -5,6 +5,8 @@ mod escaping;
 mod printing;
 mod row;
 mod schema;
+#[cfg(test)]
+mod tests;
 mod value;
 
 pub use printing::{header_text, row_text};

@@ -72,11 +72,11 @@ pub place-found : (start step : ℤ) (places : ℕ) (number : ℤ) → 0 < count
 place-found start step zero number some = absurd (omega arith)
 place-found start step (suc places) number some =
     ⊎_elim
-      (λ (same : number_at start step places ≡ number). (places, omega arith, same))
-      (λ (other : number_at start step places ≢ number).
-        let last = one_if-other (number_at start step places) number (λ same. other (sym same)) in
-        let more = count-more start step places number in
-        let left : 0 < count_of number (firsts start step places) = omega arith in
-        let found = place-found start step places number left in
-        (found.0, omega arith, found.2))
-      (same_or_other (number_at start step places) number)
+    (λ (same : number_at start step places ≡ number). (places, omega arith, same))
+    (λ (other : number_at start step places ≢ number).
+    let last = one_if-other (number_at start step places) number (λ same. other (sym same)) in
+    let more = count-more start step places number in
+    let left : 0 < count_of number (firsts start step places) = omega arith in
+    let found = place-found start step places number left in
+    (found.0, omega arith, found.2))
+    (same_or_other (number_at start step places) number)

@@ -66,9 +66,9 @@ decimal_graphic : (n : ℕ) → n < 2 ^ 64 → All IsGraphic (decimal n)
 unfolding IsGraphic
 decimal_graphic n fits =
     decimal_by_steps (λ (k : ℕ) (ds : List ℕ). All IsGraphic ds)
-      (λ k digit. one_graphic (48 + k) (omega arith, omega arith))
-      (λ k ds large front. All-append IsGraphic ds _ front (one_graphic (48 + k % 10) (omega arith, omega arith)))
-      n fits
+    (λ k digit. one_graphic (48 + k) (omega arith, omega arith))
+    (λ k ds large front. All-append IsGraphic ds _ front (one_graphic (48 + k % 10) (omega arith, omega arith)))
+    n fits
 
 signed_graphic : (z : ℤ) → mag z < 2 ^ 63 → All IsGraphic (signed_decimal z)
 unfolding IsGraphic
@@ -89,23 +89,23 @@ joined_printable [] graphic = All-nil IsPrintable
 joined_printable (word ∷ []) graphic = printable_from_graphic word graphic.0
 joined_printable (word ∷ next ∷ words) graphic =
     All-append IsPrintable word (32 ∷ join_with_byte 32 (next ∷ words)) (printable_from_graphic word graphic.0)
-      (All-cons IsPrintable 32 (join_with_byte 32 (next ∷ words)) (omega arith, omega arith) (joined_printable (next ∷ words) graphic.1))
+    (All-cons IsPrintable 32 (join_with_byte 32 (next ∷ words)) (omega arith, omega arith) (joined_printable (next ∷ words) graphic.1))
 
 -- the line of an ask
 spelled_printable : (ask : Ask) → IsAsk ask → All IsPrintable (spelled ask)
 spelled_printable ask valid =
     joined_printable (words_of ask)
-      (ask_graphic, (name_graphic ask.name valid.name_is.word, (range_graphic, (signed_graphic ask.start valid.start_fits.sfits, (signed_graphic ask.end valid.end_fits.sfits, (signed_graphic ask.step valid.step_fits.sfits, tt))))))
+    (ask_graphic, (name_graphic ask.name valid.name_is.word, (range_graphic, (signed_graphic ask.start valid.start_fits.sfits, (signed_graphic ask.end valid.end_fits.sfits, (signed_graphic ask.step valid.step_fits.sfits, tt))))))
 
 -- a script of an ask is text
 pub Spells-utf8 : (script : List ℕ) (ask : Ask) → Spells script ask → IsUtf8 script
 Spells-utf8 script ask spells =
     let ascii = All-weaker IsPrintable (λ (b : ℕ). b < 128) (λ b within. omega arith) (spelled ask) (spelled_printable ask spells.valid) in
     ⊎_elim
-      (λ (bare : script ≡ spelled ask). subst IsUtf8 (sym bare) (IsUtf8-from_ascii (spelled ask) (IsAscii-from_all (spelled ask) ascii)))
-      (λ (ended : script ≡ spelled ask ++ 10 ∷ []).
-        subst IsUtf8 (sym ended) (IsUtf8-from_ascii (spelled ask ++ 10 ∷ []) (IsAscii-push (spelled ask) 10 (IsAscii-from_all (spelled ask) ascii) (omega arith))))
-      spells.line
+    (λ (bare : script ≡ spelled ask). subst IsUtf8 (sym bare) (IsUtf8-from_ascii (spelled ask) (IsAscii-from_all (spelled ask) ascii)))
+    (λ (ended : script ≡ spelled ask ++ 10 ∷ []).
+    subst IsUtf8 (sym ended) (IsUtf8-from_ascii (spelled ask ++ 10 ∷ []) (IsAscii-push (spelled ask) 10 (IsAscii-from_all (spelled ask) ascii) (omega arith))))
+    spells.line
 
 -- no line of an ask ends with an LF
 pub spelled-no_LF : (ask : Ask) (front : List ℕ) → IsAsk ask → spelled ask ≢ front ++ 10 ∷ []
@@ -147,9 +147,9 @@ pub script_from_line : (script line : List ℕ) (r : Result (Option Ask) AllocEr
 script_from_line script line (Err e) is found = tt
 script_from_line script line (Ok None) is none = λ ask spells.
     ⊎_elim
-      (λ (bare : script ≡ spelled ask).
-        ⊎_elim (λ same. none ask spells.valid (sym same ∙ bare)) (λ ended. spelled-no_LF ask line spells.valid (sym bare ∙ ended)) is.either)
-      (λ (ended : script ≡ spelled ask ++ 10 ∷ []). none ask spells.valid (is.stripped (spelled ask) ended))
-      spells.line
+    (λ (bare : script ≡ spelled ask).
+    ⊎_elim (λ same. none ask spells.valid (sym same ∙ bare)) (λ ended. spelled-no_LF ask line spells.valid (sym bare ∙ ended)) is.either)
+    (λ (ended : script ≡ spelled ask ++ 10 ∷ []). none ask spells.valid (is.stripped (spelled ask) ended))
+    spells.line
 script_from_line script line (Ok (Some ask)) is found =
     record { valid = found.0; line = ⊎_elim (λ same. inl (same ∙ found.1)) (λ ended. inr (ended ∙ ap (λ (l : List ℕ). l ++ 10 ∷ []) found.1)) is.either }

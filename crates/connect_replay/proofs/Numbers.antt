@@ -31,9 +31,9 @@ IsBefore-earlier start step end place more before =
 pub number_at-apart : (start step : ℤ) (place more : ℕ) → step ≢ pos 0 → number_at start step (suc (place + more)) ≢ number_at start step place
 number_at-apart start step place more moves same =
     ⊎_elim
-      (λ up. let least = number_at-≤ start step place more up in omega (arith, ints, least))
-      (λ down. let most = number_at-≥ start step place more down in omega (arith, ints, most))
-      (goes step moves)
+    (λ up. let least = number_at-≤ start step place more up in omega (arith, ints, least))
+    (λ down. let most = number_at-≥ start step place more down in omega (arith, ints, most))
+    (goes step moves)
 
 -- the number at a place without going there
 pub number_at-closed : (start step : ℤ) (place : ℕ) → number_at start step place ≡ start +ℤ (pos place *ℤ step)
@@ -48,21 +48,20 @@ pub few-rising : (start step end number : ℤ) (limit : ℕ) → pos 0 <ℤ step
     → (end ≤ℤ number → (place : ℕ) → IsBefore step (number_at start step place) end → place < limit)
     × (((place : ℕ) → IsBefore step (number_at start step place) end → place < limit) → end ≤ℤ number)
 few-rising start step end number limit up is =
-    let at_limit = number_at-closed start step limit in
-    (
-        (λ past place before. ⊎_elim (λ within. within)
+    let at_limit = number_at-closed start step limit in (
+      (λ past place before. ⊎_elim (λ within. within)
           (λ beyond.
-            let sum : place ≡ limit + (place - limit) = omega arith in
-            let at_sum = subst (λ (p : ℕ). IsBefore step (number_at start step p) end) sum before in
-            let below = (IsBefore-earlier start step end limit (place - limit) at_sum).rising up in
-            absurd (omega (arith, ints, below)))
+          let sum : place ≡ limit + (place - limit) = omega arith in
+          let at_sum = subst (λ (p : ℕ). IsBefore step (number_at start step p) end) sum before in
+          let below = (IsBefore-earlier start step end limit (place - limit) at_sum).rising up in
+          absurd (omega (arith, ints, below)))
           (cases_lt place limit)),
-        (λ few. ⊎_elim
+      (λ few. ⊎_elim
           (λ (below : number <ℤ end).
-            let early = few limit (record { rising = λ _. omega (arith, ints); falling = λ down. absurd (omega (arith, ints)) }) in
-            absurd (omega arith))
+          let early = few limit (record { rising = λ _. omega (arith, ints); falling = λ down. absurd (omega (arith, ints)) }) in
+          absurd (omega arith))
           (λ (past : end ≤ℤ number). past)
-          (either number end))
+          (either number end)),
     )
 
 -- and so has a falling one
@@ -70,21 +69,20 @@ pub few-falling : (start step end number : ℤ) (limit : ℕ) → step <ℤ pos 
     → (number ≤ℤ end → (place : ℕ) → IsBefore step (number_at start step place) end → place < limit)
     × (((place : ℕ) → IsBefore step (number_at start step place) end → place < limit) → number ≤ℤ end)
 few-falling start step end number limit down is =
-    let at_limit = number_at-closed start step limit in
-    (
-        (λ past place before. ⊎_elim (λ within. within)
+    let at_limit = number_at-closed start step limit in (
+      (λ past place before. ⊎_elim (λ within. within)
           (λ beyond.
-            let sum : place ≡ limit + (place - limit) = omega arith in
-            let at_sum = subst (λ (p : ℕ). IsBefore step (number_at start step p) end) sum before in
-            let above = (IsBefore-earlier start step end limit (place - limit) at_sum).falling down in
-            absurd (omega (arith, ints, above)))
+          let sum : place ≡ limit + (place - limit) = omega arith in
+          let at_sum = subst (λ (p : ℕ). IsBefore step (number_at start step p) end) sum before in
+          let above = (IsBefore-earlier start step end limit (place - limit) at_sum).falling down in
+          absurd (omega (arith, ints, above)))
           (cases_lt place limit)),
-        (λ few. ⊎_elim
+      (λ few. ⊎_elim
           (λ (above : end <ℤ number).
-            let early = few limit (record { rising = λ up. absurd (omega (arith, ints)); falling = λ _. omega (arith, ints) }) in
-            absurd (omega arith))
+          let early = few limit (record { rising = λ up. absurd (omega (arith, ints)); falling = λ _. omega (arith, ints) }) in
+          absurd (omega arith))
           (λ (past : number ≤ℤ end). past)
-          (either end number))
+          (either end number)),
     )
 
 le_z-≤ℤ : (a b : ℤ) → le_z a b ≡ true → a ≤ℤ b
@@ -98,18 +96,16 @@ pub few-rising_test : (start step end number last : ℤ) (limit : ℕ) → pos 0
     → (le_z last number ≡ true → (place : ℕ) → IsBefore step (number_at start step place) end → place < limit)
     × (((place : ℕ) → IsBefore step (number_at start step place) end → place < limit) → le_z last number ≡ true)
 few-rising_test start step end number last limit up is same =
-    let few = few-rising start step end number limit up is in
-    (
-        (λ passed. few.0 (let below = le_z-≤ℤ last number passed in omega (arith, ints, below))),
-        (λ all. let past = few.1 all in ≤ℤ-le_z last number (omega (arith, ints, past)))
+    let few = few-rising start step end number limit up is in (
+      (λ passed. few.0 (let below = le_z-≤ℤ last number passed in omega (arith, ints, below))),
+      (λ all. let past = few.1 all in ≤ℤ-le_z last number (omega (arith, ints, past))),
     )
 
 pub few-falling_test : (start step end number last : ℤ) (limit : ℕ) → step <ℤ pos 0 → number ≡ start +ℤ (pos limit *ℤ step) → last ≡ end
     → (le_z number last ≡ true → (place : ℕ) → IsBefore step (number_at start step place) end → place < limit)
     × (((place : ℕ) → IsBefore step (number_at start step place) end → place < limit) → le_z number last ≡ true)
 few-falling_test start step end number last limit down is same =
-    let few = few-falling start step end number limit down is in
-    (
-        (λ passed. few.0 (let above = le_z-≤ℤ number last passed in omega (arith, ints, above))),
-        (λ all. let past = few.1 all in ≤ℤ-le_z number last (omega (arith, ints, past)))
+    let few = few-falling start step end number limit down is in (
+      (λ passed. few.0 (let above = le_z-≤ℤ number last passed in omega (arith, ints, above))),
+      (λ all. let past = few.1 all in ≤ℤ-le_z number last (omega (arith, ints, past))),
     )

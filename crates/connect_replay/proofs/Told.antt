@@ -38,9 +38,9 @@ pub length-script : (script : List ℕ) (ask : Ask) → Spells script ask → le
 length-script script ask spells =
     let line = length-spelled ask spells.valid in
     ⊎_elim
-      (λ (bare : script ≡ spelled ask). omega (arith, ap (length {A = ℕ}) bare))
-      (λ (ended : script ≡ spelled ask ++ 10 ∷ []). omega (arith, ap (length {A = ℕ}) ended, length-append (spelled ask) (10 ∷ [])))
-      spells.line
+    (λ (bare : script ≡ spelled ask). omega (arith, ap (length {A = ℕ}) bare))
+    (λ (ended : script ≡ spelled ask ++ 10 ∷ []). omega (arith, ap (length {A = ℕ}) ended, length-append (spelled ask) (10 ∷ [])))
+    spells.line
 
 -- fewer bytes were taken than there is room for, where they are fewer than that
 pub fewer : (count : ℕ) (buffer : List ℕ) → count ≤ length buffer → length (take count buffer) < length buffer → count < length buffer

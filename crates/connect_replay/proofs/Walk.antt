@@ -43,21 +43,21 @@ pub record Onward (step number next end : ℤ) : Type 0 where
 stays : (start end step number next : ℤ) → step ≢ pos 0 → SFits w64 end → SFits w64 number → SFits w64 step → next ≡ saturate_signed w64 (number +ℤ step) → Onward step number next end
 stays start end step number next moves end_fits number_fits step_fits next_is =
     ⊎_elim
-      (λ same. let is = next_is ∙ same in record { here = λ _. is; there = λ b. subst (λ (w : ℤ). IsBefore step w end) (sym is) b })
-      (⊎_elim
-        (λ high. let is = next_is ∙ high.0 in
-          let up : pos 0 <ℤ step = omega (arith, ints, high.1) in
-          record {
-            here = λ b. let below = b.rising up in absurd (omega (arith, ints, below));
-            there = λ b. let below = b.rising up in absurd (omega (arith, ints, below, high.1));
-          })
-        (λ low. let is = next_is ∙ low.0 in
-          let down : step <ℤ pos 0 = omega (arith, ints, low.1) in
-          record {
-            here = λ b. let above = b.falling down in absurd (omega (arith, ints, above));
-            there = λ b. let above = b.falling down in absurd (omega (arith, ints, above, low.1));
-          }))
-      (nearest (number +ℤ step))
+    (λ same. let is = next_is ∙ same in record { here = λ _. is; there = λ b. subst (λ (w : ℤ). IsBefore step w end) (sym is) b })
+    (⊎_elim
+    (λ high. let is = next_is ∙ high.0 in
+    let up : pos 0 <ℤ step = omega (arith, ints, high.1) in
+    record {
+      here = λ b. let below = b.rising up in absurd (omega (arith, ints, below));
+      there = λ b. let below = b.rising up in absurd (omega (arith, ints, below, high.1));
+    })
+    (λ low. let is = next_is ∙ low.0 in
+    let down : step <ℤ pos 0 = omega (arith, ints, low.1) in
+    record {
+      here = λ b. let above = b.falling down in absurd (omega (arith, ints, above));
+      there = λ b. let above = b.falling down in absurd (omega (arith, ints, above, low.1));
+    }))
+    (nearest (number +ℤ step))
 
 -- one more step of a walk
 pub walked-more : (start end step number next : ℤ) (numbers : List ℤ) → step ≢ pos 0 → SFits w64 end → SFits w64 number → SFits w64 step → next ≡ saturate_signed w64 (number +ℤ step)
@@ -68,16 +68,16 @@ walked-more start end step number next numbers moves end_fits number_fits step_f
     let onward = stays start end step number next moves end_fits number_fits step_fits next_is in
     record {
       firsts_are =
-        ap (λ (ns : List ℤ). ns ++ number ∷ []) walked.firsts_are
-        ∙ ap (λ (w : ℤ). firsts start step (length numbers) ++ w ∷ []) number_is
-        ∙ ap (firsts start step) (sym more);
+          ap (λ (ns : List ℤ). ns ++ number ∷ []) walked.firsts_are
+          ∙ ap (λ (w : ℤ). firsts start step (length numbers) ++ w ∷ []) number_is
+          ∙ ap (firsts start step) (sym more);
       here = λ b. onward.here b ∙ ap (λ (w : ℤ). w +ℤ step) number_is ∙ ap (number_at start step) (sym more);
       there = λ b. onward.there (subst (λ (w : ℤ). IsBefore step w end) (ap (number_at start step) more ∙ sym (ap (λ (w : ℤ). w +ℤ step) number_is)) b);
       before = λ place within.
-        ⊎_elim (λ below. walked.before place below)
+          ⊎_elim (λ below. walked.before place below)
           (λ last.
-            let here : length numbers ≡ place = omega arith in
-            subst (λ (p : ℕ). IsBefore step (number_at start step p) end) here (subst (λ (w : ℤ). IsBefore step w end) number_is before))
+          let here : length numbers ≡ place = omega arith in
+          subst (λ (p : ℕ). IsBefore step (number_at start step p) end) here (subst (λ (w : ℤ). IsBefore step w end) number_is before))
           (cases_lt place (length numbers));
     }
 
@@ -85,26 +85,26 @@ walked-more start end step number next numbers moves end_fits number_fits step_f
 place-below : (start end step number : ℤ) (numbers : List ℤ) (place : ℕ) → IsWalked start end step number numbers → (IsBefore step number end → ⊥) → IsBefore step (number_at start step place) end → place < length numbers
 place-below start end step number numbers place walked over before =
     ⊎_elim (λ within. within)
-      (λ past.
-        let sum : place ≡ length numbers + (place - length numbers) = omega arith in
-        let at_sum = subst (λ (p : ℕ). IsBefore step (number_at start step p) end) sum before in
-        absurd (over (walked.there (IsBefore-earlier start step end (length numbers) (place - length numbers) at_sum))))
-      (cases_lt place (length numbers))
+    (λ past.
+    let sum : place ≡ length numbers + (place - length numbers) = omega arith in
+    let at_sum = subst (λ (p : ℕ). IsBefore step (number_at start step p) end) sum before in
+    absurd (over (walked.there (IsBefore-earlier start step end (length numbers) (place - length numbers) at_sum))))
+    (cases_lt place (length numbers))
 
 -- a walk ends with the numbers of the range
 pub range-walked : (start end step number : ℤ) (numbers : List ℤ) → step ≢ pos 0 → IsWalked start end step number numbers → (IsBefore step number end → ⊥) → IsRange start end step numbers
 range-walked start end step number numbers moves walked over =
     record {
       each = λ z is.
-        let within = place-below start end step number numbers is.place walked over (subst (λ (w : ℤ). IsBefore step w end) (sym is.is) is.before) in
-        let sum : suc (is.place + (length numbers - suc is.place)) ≡ length numbers = omega arith in
-        ap (λ (ns : List ℤ). count_of z ns) walked.firsts_are
-        ∙ ap (λ (w : ℤ). count_of w (firsts start step (length numbers))) (sym is.is)
-        ∙ ap (λ (n : ℕ). count_of (number_at start step is.place) (firsts start step n)) (sym sum)
-        ∙ count-one start step is.place (length numbers - suc is.place) moves;
+          let within = place-below start end step number numbers is.place walked over (subst (λ (w : ℤ). IsBefore step w end) (sym is.is) is.before) in
+          let sum : suc (is.place + (length numbers - suc is.place)) ≡ length numbers = omega arith in
+          ap (λ (ns : List ℤ). count_of z ns) walked.firsts_are
+          ∙ ap (λ (w : ℤ). count_of w (firsts start step (length numbers))) (sym is.is)
+          ∙ ap (λ (n : ℕ). count_of (number_at start step is.place) (firsts start step n)) (sym sum)
+          ∙ count-one start step is.place (length numbers - suc is.place) moves;
       no_other = λ z some.
-        let found = place-found start step (length numbers) z (subst (λ (ns : List ℤ). 0 < count_of z ns) walked.firsts_are some) in
-        record { place = found.0; is = found.2; before = subst (λ (w : ℤ). IsBefore step w end) found.2 (walked.before found.0 found.1) };
+          let found = place-found start step (length numbers) z (subst (λ (ns : List ℤ). 0 < count_of z ns) walked.firsts_are some) in
+          record { place = found.0; is = found.2; before = subst (λ (w : ℤ). IsBefore step w end) found.2 (walked.before found.0 found.1) };
     }
 
 -- a step from a number before the end goes on in the range's direction
@@ -112,13 +112,13 @@ onward : (step number next end : ℤ) → SFits w64 end → SFits w64 number →
     → (pos 0 <ℤ step → number <ℤ next) × (step <ℤ pos 0 → next <ℤ number)
 onward step number next end end_fits number_fits step_fits next_is before =
     ⊎_elim
-      (λ same. let is = next_is ∙ same in ((λ up. omega (arith, ints)), (λ down. omega (arith, ints))))
-      (⊎_elim
-        (λ high. let is = next_is ∙ high.0 in
-          ((λ up. let below = before.rising up in omega (arith, ints, below)), (λ down. omega (arith, ints, high.1))))
-        (λ low. let is = next_is ∙ low.0 in
-          ((λ up. omega (arith, ints, low.1)), (λ down. let above = before.falling down in omega (arith, ints, above)))))
-      (nearest (number +ℤ step))
+    (λ same. let is = next_is ∙ same in ((λ up. omega (arith, ints)), (λ down. omega (arith, ints))))
+    (⊎_elim
+    (λ high. let is = next_is ∙ high.0 in
+    ((λ up. let below = before.rising up in omega (arith, ints, below)), (λ down. omega (arith, ints, high.1))))
+    (λ low. let is = next_is ∙ low.0 in
+    ((λ up. omega (arith, ints, low.1)), (λ down. let above = before.falling down in omega (arith, ints, above)))))
+    (nearest (number +ℤ step))
 
 -- and so comes nearer to the end
 pub walk-nears : (step number next end : ℤ) → step ≢ pos 0 → SFits w64 end → SFits w64 number → SFits w64 step → next ≡ saturate_signed w64 (number +ℤ step) → IsBefore step number end
@@ -126,6 +126,6 @@ pub walk-nears : (step number next end : ℤ) → step ≢ pos 0 → SFits w64 e
 walk-nears step number next end moves end_fits number_fits step_fits next_is before =
     let on = onward step number next end end_fits number_fits step_fits next_is before in
     ⊎_elim
-      (λ rises. let on_up = on.0 rises in let below = before.rising rises in grind (arith, ints))
-      (λ falls. let on_down = on.1 falls in let above = before.falling falls in grind (arith, ints))
-      (goes step moves)
+    (λ rises. let on_up = on.0 rises in let below = before.rising rises in grind (arith, ints))
+    (λ falls. let on_down = on.1 falls in let above = before.falling falls in grind (arith, ints))
+    (goes step moves)

@@ -167,7 +167,11 @@ fn is_few(start: i64, end: i64, step: i64) -> bool
 {
     let number = number_past_limit(start, step);
     let end = i128::from(end);
-    if step > 0 { number >= end } else { number <= end }
+    if step > 0 {
+        number >= end
+    } else {
+        number <= end
+    }
 }
 
 /// The number of the range after its first 10,000.

@@ -7,6 +7,8 @@ mod reading;
 mod replay;
 mod section;
 mod status;
+#[cfg(test)]
+mod tests;
 
 use cn_base::{List, StdSink, StdSource, Text};
 use replay::replay;

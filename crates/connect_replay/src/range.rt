@@ -14,7 +14,12 @@ pub fn is_before(step: i64, number: i64, end: i64) -> bool
 }
 
 /// The numbers from `start` by `step` before `end`, in this order.
-pub fn range_numbers(alloc: Global, start: i64, end: i64, step: i64) -> Result<List<i64>, OutOfMemory>
+pub fn range_numbers(
+    alloc: Global,
+    start: i64,
+    end: i64,
+    step: i64,
+) -> Result<List<i64>, OutOfMemory>
     requires { step ≢ pos 0 }
     ensures { IfOk result (IsRange start end step) }
 {

@@ -42,7 +42,11 @@ pub fn replay<S: Source, K: Sink>(
     };
     match play(alloc, &buffer[..count]) {
         Ok(Some(text)) => finish(output, text.as_str(), ReplayStatus::Done),
-        Ok(None) => finish(output, "bad script 1\n", ReplayStatus::BadScript { line: 1 }),
+        Ok(None) => finish(
+            output,
+            "bad script 1\n",
+            ReplayStatus::BadScript { line: 1 },
+        ),
         Err(_) => ReplayStatus::OutOfMemory,
     }
 }

@@ -13,15 +13,14 @@ returns c =
     let step_fits : SFits w64 ask.step = search rules in
     let few = simp to_z-of_z at c.is_few.ensures in
     let moves : ask.step ≢ pos 0 = grind (arith, ints) in
-    let name_is : IsName ask.name = search rules in
-    (
-        (λ passed. record {
-          name_is = name_is;
-          start_fits = start_fits;
-          end_fits = end_fits;
-          step_fits = step_fits;
-          moves = moves;
-          few = few.0 passed;
-        }),
-        (λ valid. few.1 valid.few)
+    let name_is : IsName ask.name = search rules in (
+      (λ passed. record {
+        name_is = name_is;
+        start_fits = start_fits;
+        end_fits = end_fits;
+        step_fits = step_fits;
+        moves = moves;
+        few = few.0 passed;
+      }),
+      (λ valid. few.1 valid.few),
     )

@@ -9,5 +9,5 @@ returns-in-Err c = λ ask spells. c.in-Err.ensures.cases.0 (Spells-utf8 _ ask sp
 pub returns-in-Ok : goal.returns-in-Ok
 returns-in-Ok c =
     script_from_line c.args.script.now c.without_last_lf.result.now c.parse_ask.result
-      (subst (λ (text : List ℕ). IsLineOf text c.without_last_lf.result.now) c.in-Ok.ensures.cases.0 c.without_last_lf.ensures)
-      c.parse_ask.ensures
+    (subst (λ (text : List ℕ). IsLineOf text c.without_last_lf.result.now) c.in-Ok.ensures.cases.0 c.without_last_lf.ensures)
+    c.parse_ask.ensures

@@ -25,4 +25,4 @@ returns-in-Ok-None-clause-printed g c =
     let buffer = c.read_start.new.buffer in
     let none = rw c.in-Ok-None.field-0-is at c.in-Ok-None.ensures in
     c.finish-in-Ok-None.ensures.printed _ _
-      (empty c.args.words.now (sym c.if-not-is_empty.ensures), refl, none_read _ _ _ c.in-Ok.ensures.read (λ short. c.in-Ok.ensures.end (fewer c.in-Ok.count buffer c.in-Ok.ensures.room (omega arith))) none, refl)
+    (empty c.args.words.now (sym c.if-not-is_empty.ensures), refl, none_read _ _ _ c.in-Ok.ensures.read (λ short. c.in-Ok.ensures.end (fewer c.in-Ok.count buffer c.in-Ok.ensures.room (omega arith))) none, refl)
