@@ -47,6 +47,16 @@ impl Bytes {
         self.items.extend_from_slice(more)
     }
 
+    /// Adds `first` and then `second` at the end, or changes nothing.
+    pub fn append_both(&mut self, first: &[u8], second: &[u8]) -> Result<(), OutOfMemory>
+        ensures ok { OnOk result (self.new ≡ self.old ++ (first.now ++ second.now)) }
+        ensures err { OnErr result (self.new ≡ self.old) }
+    {
+        self.items.reserve(first.len() + second.len())?;
+        self.items.extend_from_slice(first)?;
+        self.items.extend_from_slice(second)
+    }
+
     /// Lends the bytes.
     pub fn as_slice(&self) -> &[u8]
         ensures { result.now ≡ self.now }
