@@ -1,0 +1,3 @@
+pub mod IdLemmas
+pub mod ParseLemmas
+pub mod WindowLemmas
