@@ -1,0 +1,2 @@
+-- What values, rows and schemas are printed as.
+pub mod Printed
