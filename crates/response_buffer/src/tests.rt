@@ -1,5 +1,6 @@
-use crate::{Missing, ResponseId, Retained};
-use cn_base::Bytes;
+use crate::{Missing, ResponseId, Retained, cut};
+use cn_base::{Bytes, List, OutOfMemory, Text};
+use cn_types::{Row, Value};
 use std::alloc::Global;
 use std::test::Fail;
 
@@ -129,5 +130,61 @@ fn kept_places_are_lent_and_released(rt: HostRuntime) -> Result<(), Fail> {
     push(rt.alloc(), &mut window, 5, 40)?;
     assert_eq!(rt; (window.first_kept(), window.high()), (5, 5));
     assert_eq!(rt; window.take(5).ok().ok_or("kept")?, [5; 40].as_slice());
+    Ok(())
+}
+
+/// A row of one text of so many bytes, which weighs 4 more.
+fn text_row(alloc: Global, length: usize) -> Result<Row, OutOfMemory> {
+    let text = Text::from_string("x".repeat(alloc, length)?);
+    let mut values = List::new(alloc);
+    values.push(Value::Text(text))?;
+    Ok(Row(values))
+}
+
+#[test]
+fn rows_are_cut_by_their_number(rt: HostRuntime) -> Result<(), Fail> {
+    let mut rows = List::new(rt.alloc());
+    assert_eq!(rt;
+        cut(rt.alloc(), rows.as_slice(), 2)?.as_slice(),
+        [0].as_slice()
+    );
+    assert_eq!(rt;
+        cut(rt.alloc(), rows.as_slice(), 0)?.as_slice(),
+        [0].as_slice()
+    );
+    for _ in 0..5 {
+        rows.push(text_row(rt.alloc(), 1)?)?;
+    }
+    assert_eq!(rt;
+        cut(rt.alloc(), rows.as_slice(), 2)?.as_slice(),
+        [2, 4, 5].as_slice()
+    );
+    assert_eq!(rt;
+        cut(rt.alloc(), rows.as_slice(), 5)?.as_slice(),
+        [5].as_slice()
+    );
+    assert_eq!(rt;
+        cut(rt.alloc(), rows.as_slice(), 0)?.as_slice(),
+        [5].as_slice()
+    );
+    Ok(())
+}
+
+#[test]
+fn rows_are_cut_by_their_weight(rt: HostRuntime) -> Result<(), Fail> {
+    for (lengths, ends) in [
+        // The first two weigh 1 MiB together.
+        ([(1 << 20) - 9, 1, 0], [2, 3].as_slice()),
+        // They weigh one byte more.
+        ([(1 << 20) - 8, 1, 0], [1, 3].as_slice()),
+        // A row of more than 1 MiB stands alone.
+        ([1, 1 << 20, 1], [1, 2, 3].as_slice()),
+    ] {
+        let mut rows = List::new(rt.alloc());
+        for length in lengths {
+            rows.push(text_row(rt.alloc(), length)?)?;
+        }
+        assert_eq!(rt; cut(rt.alloc(), rows.as_slice(), 0)?.as_slice(), ends);
+    }
     Ok(())
 }
