@@ -1,4 +1,5 @@
-ghost use Rattle.std.specs.Prelude.{◌≡◌, IfOk};
+ghost use Rattle.std.specs.Prelude.{◌≡◌, ◌-◌, ◌^◌, min, IfOk};
+ghost use Rattle.cn_types.specs.Weight.{value_weight, row_weight};
 
 use crate::Value;
 use cn_base::{Copied, List, OutOfMemory};
@@ -9,6 +10,32 @@ use std::sync::Arc;
 /// The values of a row, one for each column.
 #[derive(Debug, Drop)]
 pub struct Row(pub List<Value>);
+
+impl Row {
+    /// What the row weighs: the sum of its values, or 2^64 - 1 where that is more. It takes no memory.
+    pub fn weight(&self) -> u64
+        ensures { result ≡ min (row_weight self.now) (2 ^ 64 - 1) }
+    {
+        let mut weight: u64 = 0;
+        for value in self.0.as_slice() {
+            weight = weight.saturating_add(weight_of_value(value));
+        }
+        weight
+    }
+}
+
+fn weight_of_value(value: &Value) -> u64
+    ensures { result ≡ value_weight value.now }
+{
+    match value {
+        Value::Null => 1,
+        Value::Boolean(_) => 1,
+        Value::Integer(_) => 4,
+        Value::Long(_) => 8,
+        Value::Text(text) => 4 + text.as_str().len() as u64,
+        Value::Date(_) => 4,
+    }
+}
 
 impl Copied for Row {
     fn copy(&self, alloc: Global) -> Result<Row, OutOfMemory> {

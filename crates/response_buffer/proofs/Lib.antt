@@ -1,0 +1,4 @@
+pub mod IdLemmas
+pub mod ParseLemmas
+pub mod WindowLemmas
+pub mod BatchLemmas
