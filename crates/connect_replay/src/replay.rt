@@ -1,4 +1,4 @@
-ghost use Rattle.std.specs.Prelude.{◌≡◌, ◌≤◌, ◌⊎◌, [], ℕ, List, Option, Some, IfOk, MatchOption};
+ghost use Rattle.std.specs.Prelude.{◌≡◌, ◌≢◌, ◌≤◌, ◌⊎◌, [], ℕ, List, Option, Some, IfOk, MatchOption};
 ghost use Rattle.std.specs.Io.KnownBytes.{IsAtEnd};
 ghost use Rattle.cn_base.specs.Outside.{Rose};
 ghost use Rattle.connect_replay.specs.Ask.{IsNoScript};
@@ -24,6 +24,9 @@ pub fn replay<S: Source, K: Sink>(
 ) -> ReplayStatus
     // What the output tells has grown by what the answer prints.
     ensures printed { Leaves words.now (S.left input.old) (K.told output.old) (K.told output.new) result }
+
+    // Words are looked at first: where there is one, nothing else is answered, unless the output fails.
+    ensures words_first { words.now ≢ [] → (result ≡ ReplayStatus.BadWords) ⊎ (result ≡ ReplayStatus.WriteFault) }
 
     // A fault is answered only where the outside had one.
     ensures read_fault { result ≡ ReplayStatus.ReadFault → Rose (S.faults input.old) (S.faults input.new) }
