@@ -1,2 +1,6 @@
--- What values, rows and schemas are printed as.
+-- What values, rows and schemas are, how they compare, and what they are printed as.
+pub mod Fit
+pub mod Order
+pub mod OrderLaws
 pub mod Printed
+pub mod Weight

@@ -2,14 +2,20 @@
 #![tactic(auto)]
 
 mod escaping;
+mod ordering;
 mod printing;
 mod row;
 mod schema;
+mod settings;
 #[cfg(test)]
 mod tests;
 mod value;
 
+pub use ordering::{
+    equal_rows_are_the_same, equal_values_are_the_same, order, rows_are_ordered, values_are_ordered,
+};
 pub use printing::{header_text, row_text};
 pub use row::{Row, RowList};
 pub use schema::{Field, Schema};
+pub use settings::{Pair, Settings};
 pub use value::{DataType, Value};

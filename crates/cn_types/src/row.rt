@@ -1,4 +1,4 @@
-ghost use Rattle.std.specs.Prelude.{◌≡◌, IfOk};
+ghost use Rattle.std.specs.Prelude.{◌≡◌, ◌-◌, ◌^◌, IfOk, min};
 
 use crate::Value;
 use cn_base::{Copied, List, OutOfMemory};
@@ -9,6 +9,37 @@ use std::sync::Arc;
 /// The values of a row, one for each column.
 #[derive(Debug, Drop)]
 pub struct Row(pub List<Value>);
+
+impl Row {
+    ghost use Rattle.cn_types.specs.Weight.{row_weight};
+
+    /// What the row weighs: 8 for a long, 4 for an integer or a date, 1 for a boolean or null, 4 and its bytes for a text; 2^64 - 1
+    /// where the sum is above that. It takes no memory.
+    pub fn weight(&self) -> u64
+        ensures { result ≡ row_weight self.now }
+    {
+        let mut sum = 0u64;
+        for value in self.0.as_slice() {
+            sum = sum.saturating_add(value_weight(value));
+        }
+        sum
+    }
+}
+
+ghost use Rattle.cn_types.specs.Weight.{weight_of};
+
+fn value_weight(value: &Value) -> u64
+    ensures { result ≡ min (weight_of value.now) (2 ^ 64 - 1) }
+{
+    match value {
+        Value::Null => 1,
+        Value::Boolean(_) => 1,
+        Value::Integer(_) => 4,
+        Value::Long(_) => 8,
+        Value::Text(text) => (text.as_str().len() as u64).saturating_add(4),
+        Value::Date(_) => 4,
+    }
+}
 
 impl Copied for Row {
     fn copy(&self, alloc: Global) -> Result<Row, OutOfMemory> {
