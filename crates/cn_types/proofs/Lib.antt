@@ -1,3 +1,6 @@
+pub mod DateFacts
 pub mod Escapes
 pub mod Lines
 pub mod OrderFacts
+pub mod PrintedFacts
+pub mod Unescapes

@@ -1,16 +1,21 @@
 //! The types that every layer shares: values, rows, schemas, and the lines that they are printed as.
 #![tactic(auto)]
 
+mod dates;
 mod escaping;
+mod fault;
 mod ordering;
 mod printing;
 mod row;
 mod schema;
 mod settings;
+mod spelling;
 #[cfg(test)]
 mod tests;
 mod value;
 
+pub use dates::dates_are_of_the_calendar;
+pub use fault::ValueFault;
 pub use ordering::{
     equal_rows_are_the_same, equal_values_are_the_same, order, rows_are_ordered, values_are_ordered,
 };
@@ -18,4 +23,5 @@ pub use printing::{header_text, row_text};
 pub use row::{Row, RowList};
 pub use schema::{Field, Schema};
 pub use settings::{Pair, Settings};
+pub use spelling::{one_value_is_spelled, value_of_text};
 pub use value::{DataType, Value};
