@@ -93,11 +93,11 @@ signed_first : (n : ℤ) → mag n < 2 ^ 63 → signed_decimal n ≢ null_text
 signed_first (pos n) small e = decimal_first n (below_more n small) (first_byte_of (decimal n) e)
 signed_first (negsuc n) small e = minus_first (decimal (suc n)) e
 
-mag_small : (n : ℤ) → IsLong n → mag n < 2 ^ 63
+pub mag_small : (n : ℤ) → IsLong n → mag n < 2 ^ 63
 mag_small (pos n) h = omega (arith, ints, h.0, h.1)
 mag_small (negsuc n) h = omega (arith, ints, h.0, h.1)
 
-wider : (n : ℤ) → IsInteger n → IsLong n
+pub wider : (n : ℤ) → IsInteger n → IsLong n
 wider n h = (omega (arith, ints, h.0), omega (arith, ints, h.1))
 
 -- ---- texts of dates

@@ -4,5 +4,6 @@ pub mod Fit
 pub mod Order
 pub mod OrderLaws
 pub mod Printed
+pub mod PrintedLaws
 pub mod Spelled
 pub mod Weight

@@ -19,7 +19,7 @@ pub use fault::ValueFault;
 pub use ordering::{
     equal_rows_are_the_same, equal_values_are_the_same, order, rows_are_ordered, values_are_ordered,
 };
-pub use printing::{header_text, row_text};
+pub use printing::{header_text, lines_tell_rows_apart, row_text};
 pub use row::{Row, RowList};
 pub use schema::{Field, Schema};
 pub use settings::{Pair, Settings};

@@ -2,6 +2,7 @@ ghost use Rattle.std.specs.Prelude.{◌≡◌, ◌++◌, All, IfOk, OnOk};
 ghost use Rattle.std.specs.String.{string_bytes};
 ghost use Rattle.cn_types.specs.Fit.{HasDateInRange};
 ghost use Rattle.cn_types.specs.Printed.{printed, row_line, header_line, separator};
+ghost use Rattle.cn_types.specs.PrintedLaws.{LinesTellRowsApart};
 
 use crate::dates::push_date;
 use crate::escaping::push_escaped;
@@ -35,6 +36,12 @@ pub fn row_text(alloc: Global, row: &Row) -> Result<Text, OutOfMemory>
     }
     out.push('\n')?;
     Ok(Text::from_string(out))
+}
+
+/// Law: two rows of the same types that are printed alike are the same.
+pub fn lines_tell_rows_apart()
+    ensures { LinesTellRowsApart }
+{
 }
 
 fn push_separator(out: &mut String, place: usize) -> Result<(), OutOfMemory>
