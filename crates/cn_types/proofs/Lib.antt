@@ -1,5 +1,6 @@
 pub mod DateFacts
 pub mod Escapes
+pub mod JsonFacts
 pub mod LineFacts
 pub mod Lines
 pub mod OrderFacts

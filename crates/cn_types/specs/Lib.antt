@@ -1,6 +1,7 @@
 -- What values, rows and schemas are, how they compare, and what they are printed as.
 pub mod Dates
 pub mod Fit
+pub mod Json
 pub mod Order
 pub mod OrderLaws
 pub mod Printed

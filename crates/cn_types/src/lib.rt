@@ -4,6 +4,7 @@
 mod dates;
 mod escaping;
 mod fault;
+mod json;
 mod ordering;
 mod printing;
 mod row;
@@ -15,7 +16,7 @@ mod tests;
 mod value;
 
 pub use dates::dates_are_of_the_calendar;
-pub use fault::ValueFault;
+pub use fault::{SchemaFault, ValueFault};
 pub use ordering::{
     equal_rows_are_the_same, equal_values_are_the_same, order, rows_are_ordered, values_are_ordered,
 };
