@@ -97,6 +97,7 @@ month_is day h =
   where
     year : ℤ
     year = pos (year_of day)
+
     before_next_month : IsLastStart (λ month. days_from_civil (pos (year_of day)) month 1) 12 day (month_of day) → IsInYear day → (month_of day ≡ 12) ⊎ ((month_of day < 12) ⊎ (12 < month_of day)) → day <ℤ (days_from_civil (pos (year_of day)) (month_of day) 1 +ℤ pos (days_in_month (pos (year_of day)) (month_of day)))
     before_next_month found in_year (inl e) = rw e (omega (arith, signed_arith, in_year.before_next, days_from_civil-day_count (pos (year_of day + 1)) 1 1, days_from_civil-day_count (pos (year_of day)) 12 1, day_count-next_year (pos (year_of day)) (pos (year_of day + 1)) (search rules) refl, day_count-last_of_year (pos (year_of day)), day_count-day (pos (year_of day)) 12 1 31 (omega arith) (omega arith)))
     before_next_month found in_year (inr (inl lt)) = omega (arith, signed_arith, found.before_next lt, days_from_civil-day_count (pos (year_of day)) (month_of day + 1) 1, days_from_civil-day_count (pos (year_of day)) (month_of day) 1, day_count-next_month (pos (year_of day)) (month_of day) found.low)

@@ -181,8 +181,11 @@ as_long [] (v ∷ vs) h = absurd h
 as_long (k ∷ ks) [] h = absurd h
 as_long (k ∷ ks) (v ∷ vs) h = omega (arith, as_long ks vs h.1)
 
-pub lines_tell_apart : LinesTellRowsApart
-lines_tell_apart kinds a b one two three four e =
+lines_of_types : (kinds : List DataType) (a b : Row) → FitsTypes kinds a → FitsTypes kinds b → All HasBits a.0 → All HasBits b.0 → row_line a ≡ row_line b → a ≡ b
+lines_of_types kinds a b one two three four e =
     let long = as_long kinds a.0 one ∙ sym (as_long kinds b.0 two) in
     let parts = same_lines (map printed a.0) (map printed b.0) long (all_plain a.0 three) (all_plain b.0 four) e in
     ap (λ (values : List Value). let row : Row = record { 0 = values } in row) (same_values kinds a.0 b.0 one two three four parts)
+
+pub lines_tell_apart : LinesTellRowsApart
+lines_tell_apart schema = lines_of_types (map (λ field. field.kind) schema.0)

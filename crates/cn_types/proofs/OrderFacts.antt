@@ -165,5 +165,5 @@ is_eq-Equal Greater e = cc
 pub rows_exact : EqualRowsAreTheSame
 rows_exact a b = (
   (λ (e : IsTrue (row_eq a b)). ap (λ (values : List Value). let row : Row = record { 0 = values } in row) (list_exact a.0 b.0 (is_eq-Equal (row_cmp a b) e))),
-  λ (e : a ≡ b). subst (λ (row : Row). IsTrue (row_eq a row)) e (subst (λ (o : Ordering). IsTrue (is_eq o)) (sym (tied_itself rows_ordered a)) refl)
+  λ (e : a ≡ b). subst (λ (row : Row). IsTrue (row_eq a row)) e (subst (λ (o : Ordering). IsTrue (is_eq o)) (sym (tied_itself rows_ordered a)) refl),
 )

@@ -97,6 +97,7 @@ not_a_letter c one two three four rest = by (first_byte c)
   where
     none : (b : ℕ) → b ≢ 92 → b ≢ 116 → b ≢ 110 → b ≢ 114 → (tail : List ℕ) → first_of (92 ∷ b ∷ tail) ≡ None
     none b p q r s tail = grind (arith, nat_tests)
+
     by : FirstByte c (encode c) → first_of (92 ∷ (encode c ++ rest)) ≡ None
     by (b, (tail, (is, inl same))) = rw is (none b (λ e. one (sym same ∙ e)) (λ e. two (sym same ∙ e)) (λ e. three (sym same ∙ e)) (λ e. four (sym same ∙ e)) (tail ++ rest))
     by (b, (tail, (is, inr high))) = rw is (none b (λ e. omega arith) (λ e. omega arith) (λ e. omega arith) (λ e. omega arith) (tail ++ rest))

@@ -29,5 +29,4 @@ fn date_of(days: i32) -> Date
 /// Law: each day from 0001-01-01 to 9999-12-31 is the date of the calendar that it is printed as.
 pub fn dates_are_of_the_calendar()
     ensures { DatesAreOfTheCalendar }
-{
-}
+{}

@@ -37,23 +37,19 @@ fn class(value: &Value) -> u8
 /// Law: the order of values is total.
 pub fn values_are_ordered()
     ensures { ValuesAreOrdered }
-{
-}
+{}
 
 /// Law: values are equal in the order exactly where they are the same, and null is the same as null.
 pub fn equal_values_are_the_same()
     ensures { EqualValuesAreTheSame }
-{
-}
+{}
 
 /// Law: the order of rows, by their first two values that differ, is total.
 pub fn rows_are_ordered()
     ensures { RowsAreOrdered }
-{
-}
+{}
 
 /// Law: a list's count of a row counts the rows that are the same as that row.
 pub fn equal_rows_are_the_same()
     ensures { EqualRowsAreTheSame }
-{
-}
+{}

@@ -38,11 +38,10 @@ pub fn row_text(alloc: Global, row: &Row) -> Result<Text, OutOfMemory>
     Ok(Text::from_string(out))
 }
 
-/// Law: two rows of the same types that are printed alike are the same.
+/// Law: two rows of one schema that are printed alike are the same.
 pub fn lines_tell_rows_apart()
     ensures { LinesTellRowsApart }
-{
-}
+{}
 
 fn push_separator(out: &mut String, place: usize) -> Result<(), OutOfMemory>
     ensures { OnOk result (string_bytes out.new ≡ string_bytes out.old ++ separator place) }

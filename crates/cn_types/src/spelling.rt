@@ -167,5 +167,4 @@ fn plain_character(letter: char) -> Option<char>
 /// Law: one text spells at most one value of a type.
 pub fn one_value_is_spelled()
     ensures { OneValueIsSpelled }
-{
-}
+{}

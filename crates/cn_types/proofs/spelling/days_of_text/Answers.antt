@@ -24,11 +24,11 @@ pub returns-else-days-ge-FIRST_DAY-clause-bad : goal.returns-else-days-ge-FIRST_
 returns-else-days-ge-FIRST_DAY-clause-bad c =
     elim c.else-days-ge-FIRST_DAY.branch [
       | else-days-ge-FIRST_DAY-via-then-days-ge-FIRST_DAY+in_ok-to_string+else-eq w ↦
-        λ bad days range e. day_not_shown days w.as_str.result.now c.args.text.now c.parse.result c.in-Ok.date c.in-Ok.is c.parse.ensures.value (search rules) w.if-eq.ensures range e
+          λ bad days range e. day_not_shown days w.as_str.result.now c.args.text.now c.parse.result c.in-Ok.date c.in-Ok.is c.parse.ensures.value (search rules) w.if-eq.ensures range e
       | else-days-ge-FIRST_DAY-via-else-days-ge-FIRST_DAY w ↦ λ bad days range e.
-        let day : c.to_unix_epoch_day-days.result ≡ epoch_day c.in-Ok.date = rw c.to_plain.ensures at c.to_unix_epoch_day-days.ensures.value in
-        let read = day_read days c.args.text.now c.parse.result c.in-Ok.date c.in-Ok.is c.parse.ensures.value range e in
-        let same : to_z w32 (of_z w32 c.to_unix_epoch_day-days.result) ≡ days = (let kept : to_z w32 (of_z w32 c.to_unix_epoch_day-days.result) ≡ c.to_unix_epoch_day-days.result = omega (arith, ints) in kept ∙ day ∙ read.0) in
-        let early = rw same at w.if-days-ge-FIRST_DAY.false in
-        not_early days range.0 early
+          let day : c.to_unix_epoch_day-days.result ≡ epoch_day c.in-Ok.date = rw c.to_plain.ensures at c.to_unix_epoch_day-days.ensures.value in
+          let read = day_read days c.args.text.now c.parse.result c.in-Ok.date c.in-Ok.is c.parse.ensures.value range e in
+          let same : to_z w32 (of_z w32 c.to_unix_epoch_day-days.result) ≡ days = (let kept : to_z w32 (of_z w32 c.to_unix_epoch_day-days.result) ≡ c.to_unix_epoch_day-days.result = omega (arith, ints) in kept ∙ day ∙ read.0) in
+          let early = rw same at w.if-days-ge-FIRST_DAY.false in
+          not_early days range.0 early
     ]
