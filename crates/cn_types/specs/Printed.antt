@@ -1,11 +1,12 @@
 -- The printed spellings: a line is its parts joined by TABs, then LF.
-use Rattle.std.specs.Prelude.{ℕ, zero, suc, ◌==◌, if◌then◌else◌, List, [], ◌∷◌, ◌++◌, map, flat_map, true, false}
+use Rattle.std.specs.Prelude.{ℕ, Bool, zero, suc, ◌==◌, if◌then◌else◌, List, [], ◌∷◌, ◌++◌, map, flat_map, true, false}
 use Rattle.std.specs.List.{join_with_byte}
 use Rattle.std.specs.Fmt.{signed_decimal}
 use Rattle.cn_types.specs.declared.value.Value.{Value}
 use Rattle.cn_types.specs.declared.value.Value.TheVariants.{Null, Boolean, Integer, Long, Text, Date}
 use Rattle.cn_types.specs.declared.row.Row.{Row}
 use Rattle.cn_types.specs.declared.schema.Schema.{Schema}
+use Rattle.cn_types.specs.Dates.{date_text}
 
 -- a backslash, TAB, LF and CR are written as a backslash and a letter, or a second backslash
 abbrev pub escaped_byte : ℕ → List ℕ
@@ -21,20 +22,19 @@ escaped text = flat_map escaped_byte text
 abbrev pub line_of : List (List ℕ) → List ℕ
 line_of parts = join_with_byte 9 parts ++ 10 ∷ []
 
--- a value as it is printed, but a date, whose spelling is not built yet
+-- true and false
+abbrev pub boolean_text : Bool → List ℕ
+boolean_text true = 116 ∷ 114 ∷ 117 ∷ 101 ∷ []
+boolean_text false = 102 ∷ 97 ∷ 108 ∷ 115 ∷ 101 ∷ []
+
+-- a value as it is printed: null as `\N`, numbers in decimal digits, dates as YYYY-MM-DD
 abbrev pub printed : Value → List ℕ
 printed Null = 92 ∷ 78 ∷ []
-printed (Boolean true) = 116 ∷ 114 ∷ 117 ∷ 101 ∷ []
-printed (Boolean false) = 102 ∷ 97 ∷ 108 ∷ 115 ∷ 101 ∷ []
+printed (Boolean value) = boolean_text value
 printed (Integer n) = signed_decimal n
 printed (Long n) = signed_decimal n
 printed (Text bytes) = escaped bytes
-printed (Date days) = []
-
--- the value is no date
-abbrev pub IsUndated : Value → Type 0
-IsUndated (Date days) = ⊥
-IsUndated other = Unit {0}
+printed (Date days) = date_text days
 
 -- the line of a row
 abbrev pub row_line : Row → List ℕ
@@ -48,3 +48,8 @@ header_line schema = line_of (map (λ field. escaped field.name) schema.0)
 abbrev pub separator : ℕ → List ℕ
 separator zero = []
 separator (suc place) = 9 ∷ []
+
+-- the backslash that the next character stands behind, where there is one
+abbrev pub pending : Bool → List ℕ
+pending true = 92 ∷ []
+pending false = []

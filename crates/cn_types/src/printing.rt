@@ -1,7 +1,10 @@
 ghost use Rattle.std.specs.Prelude.{◌≡◌, ◌++◌, All, IfOk, OnOk};
 ghost use Rattle.std.specs.String.{string_bytes};
-ghost use Rattle.cn_types.specs.Printed.{printed, IsUndated, row_line, header_line, separator};
+ghost use Rattle.cn_types.specs.Fit.{HasDateInRange};
+ghost use Rattle.cn_types.specs.Printed.{printed, row_line, header_line, separator};
+ghost use Rattle.cn_types.specs.PrintedLaws.{LinesTellRowsApart};
 
+use crate::dates::push_date;
 use crate::escaping::push_escaped;
 use crate::{Row, Schema, Value};
 use cn_base::{OutOfMemory, Text};
@@ -20,10 +23,10 @@ pub fn header_text(alloc: Global, schema: &Schema) -> Result<Text, OutOfMemory>
     Ok(Text::from_string(out))
 }
 
-/// The line of a row without dates: its printed values are joined by TABs, and LF ends the line. Numbers are decimal, null is `\N`, and
-/// texts have backslashes, TABs, LFs and CRs escaped.
+/// The line of a row, whose dates are from 0001-01-01 to 9999-12-31: its printed values are joined by TABs, and LF ends the line.
+/// Numbers are decimal, dates YYYY-MM-DD, null is `\N`, and texts have backslashes, TABs, LFs and CRs escaped.
 pub fn row_text(alloc: Global, row: &Row) -> Result<Text, OutOfMemory>
-    requires { All IsUndated row.now.0 }
+    requires { All HasDateInRange row.now.0 }
     ensures { IfOk result (λ t. t ≡ row_line row.now) }
 {
     let mut out = String::new(alloc);
@@ -35,6 +38,11 @@ pub fn row_text(alloc: Global, row: &Row) -> Result<Text, OutOfMemory>
     Ok(Text::from_string(out))
 }
 
+/// Law: two rows of one schema that are printed alike are the same.
+pub fn lines_tell_rows_apart()
+    ensures { LinesTellRowsApart }
+{}
+
 fn push_separator(out: &mut String, place: usize) -> Result<(), OutOfMemory>
     ensures { OnOk result (string_bytes out.new ≡ string_bytes out.old ++ separator place) }
 {
@@ -45,7 +53,7 @@ fn push_separator(out: &mut String, place: usize) -> Result<(), OutOfMemory>
 }
 
 fn push_value(alloc: Global, out: &mut String, value: &Value) -> Result<(), OutOfMemory>
-    requires { IsUndated value.now }
+    requires { HasDateInRange value.now }
     ensures { OnOk result (string_bytes out.new ≡ string_bytes out.old ++ printed value.now) }
 {
     match value {
@@ -55,6 +63,6 @@ fn push_value(alloc: Global, out: &mut String, value: &Value) -> Result<(), OutO
         Value::Integer(number) => out.push_str(number.to_string(alloc)?.as_str()),
         Value::Long(number) => out.push_str(number.to_string(alloc)?.as_str()),
         Value::Text(text) => push_escaped(out, text.as_str()),
-        Value::Date(_) => unreachable!(),
+        Value::Date(days) => push_date(alloc, out, *days),
     }
 }

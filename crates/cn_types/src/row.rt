@@ -1,5 +1,4 @@
-ghost use Rattle.std.specs.Prelude.{◌≡◌, ◌-◌, ◌^◌, min, IfOk};
-ghost use Rattle.cn_types.specs.Weight.{value_weight, row_weight};
+ghost use Rattle.std.specs.Prelude.{◌≡◌, ◌-◌, ◌^◌, IfOk, min};
 
 use crate::Value;
 use cn_base::{Copied, List, OutOfMemory};
@@ -12,27 +11,32 @@ use std::sync::Arc;
 pub struct Row(pub List<Value>);
 
 impl Row {
-    /// What the row weighs: the sum of its values, or 2^64 - 1 where that is more. It takes no memory.
+    ghost use Rattle.cn_types.specs.Weight.{row_weight};
+
+    /// What the row weighs: 8 for a long, 4 for an integer or a date, 1 for a boolean or null, 4 and its bytes for a text; 2^64 - 1
+    /// where the sum is above that. It takes no memory.
     pub fn weight(&self) -> u64
-        ensures { result ≡ min (row_weight self.now) (2 ^ 64 - 1) }
+        ensures { result ≡ row_weight self.now }
     {
-        let mut weight: u64 = 0;
+        let mut sum = 0u64;
         for value in self.0.as_slice() {
-            weight = weight.saturating_add(weight_of_value(value));
+            sum = sum.saturating_add(value_weight(value));
         }
-        weight
+        sum
     }
 }
 
-fn weight_of_value(value: &Value) -> u64
-    ensures { result ≡ value_weight value.now }
+ghost use Rattle.cn_types.specs.Weight.{weight_of};
+
+fn value_weight(value: &Value) -> u64
+    ensures { result ≡ min (weight_of value.now) (2 ^ 64 - 1) }
 {
     match value {
         Value::Null => 1,
         Value::Boolean(_) => 1,
         Value::Integer(_) => 4,
         Value::Long(_) => 8,
-        Value::Text(text) => 4 + text.as_str().len() as u64,
+        Value::Text(text) => (text.as_str().len() as u64).saturating_add(4),
         Value::Date(_) => 4,
     }
 }
