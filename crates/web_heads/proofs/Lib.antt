@@ -1,0 +1,16 @@
+pub mod StepLemmas
+pub mod LineLemmas
+pub mod TextLemmas
+pub mod TreeLemmas
+pub mod RequestLemmas
+pub mod ResponseLemmas
+pub mod ChunkLemmas
+pub mod Answered
+pub mod EndLemmas
+pub mod FieldLemmas
+pub mod NumberLemmas
+pub mod HeadLemmas
+pub mod SaidLemmas
+pub mod RequestsSaid
+pub mod ResponsesSaid
+pub mod AnswerLemmas

@@ -1,0 +1,5 @@
+use Rattle.web_heads.proofs.RequestLemmas.{sound, complete}
+use Rattle.web_heads.proofs.laws.request_heads_are_read.Goals as goal
+
+pub returns : goal.returns
+returns c = record { sound = sound; complete = complete }
