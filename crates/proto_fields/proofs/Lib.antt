@@ -1,0 +1,6 @@
+pub mod RecordsIn
+pub mod TextLemmas
+pub mod FaultLemmas
+pub mod ReadingLemmas
+pub mod FieldLemmas
+pub mod LawLemmas

@@ -1,0 +1,48 @@
+//! Laws over the definitions of fields, soundness and faults, each the contract of a function that does nothing.
+
+ghost use Rattle.proto_fields.specs.Laws.{FieldsOfRecords, FaultyHaveNoFields, FieldsJoin, SoundByFields, SoundHaveNoFault, FirstFaultIsFault, SoundOrFaulty, FaultIsOne, SoundIsNotFaulty};
+
+/// The fields of bytes are those of their records.
+pub fn fields_of_records()
+    ensures { FieldsOfRecords }
+{}
+
+/// Bytes with a fault have no fields.
+pub fn faulty_have_no_fields()
+    ensures { FaultyHaveNoFields }
+{}
+
+/// Two messages, one after the other, have the fields of both.
+pub fn fields_join()
+    ensures { FieldsJoin }
+{}
+
+/// A message is sound exactly where its bytes are records and the payload of each of its fields is sound.
+pub fn sound_by_fields()
+    ensures { SoundByFields }
+{}
+
+/// A message has no first fault exactly where it is sound.
+pub fn sound_have_no_fault()
+    ensures { SoundHaveNoFault }
+{}
+
+/// The first fault of a message is the fault that it has.
+pub fn first_fault_is_fault()
+    ensures { FirstFaultIsFault }
+{}
+
+/// All bytes are a sound message or have a fault.
+pub fn sound_or_faulty()
+    ensures { SoundOrFaulty }
+{}
+
+/// A message has one fault at most.
+pub fn fault_is_one()
+    ensures { FaultIsOne }
+{}
+
+/// A sound message has no fault.
+pub fn sound_is_not_faulty()
+    ensures { SoundIsNotFaulty }
+{}
