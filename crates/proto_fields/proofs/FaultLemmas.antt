@@ -20,7 +20,7 @@ use Rattle.proto_fields.specs.declared.kind.PayloadKind.{PayloadKind}
 use Rattle.proto_fields.specs.declared.kind.PayloadKind.TheVariants.{Message, Text, Other}
 use Rattle.proto_fields.specs.Fields.{content_in, records_in}
 use Rattle.proto_fields.specs.Kinds.{payload_of}
-use Rattle.proto_fields.specs.Faults.{IsSoundPayload, IsSoundContent, IsSoundRecord, IsSound, HasPayloadFault, HasFault, payload_fault, value_fault, fault_among, records_fault, first_fault, IsCause, Gives}
+use Rattle.proto_fields.specs.Faults.{IsSoundPayload, IsSoundContent, IsSoundRecord, IsSound, HasPayloadFault, HasFault, payload_fault, value_fault, fault_among, records_fault, first_fault, IsCause, Gives, Tells}
 use Rattle.proto_fields.proofs.RecordsIn.{records_in-Records, records_in-WireFaulty, Records-from_records_in, WireFaulty-from_records_in}
 use Rattle.proto_fields.proofs.TextLemmas.{is_utf8-false, not_utf8}
 
@@ -238,6 +238,12 @@ Gives-same (Wire fault) expected e = e
 Gives-same (NotUtf8 at) expected e = e
 Gives-same (TooDeep at) expected e = e
 Gives-same OutOfMemory expected e = tt
+
+pub Tells-same : (A : Type 0) (fault : MessageFault) (expected : Option MessageFault) → expected ≡ Some fault → Tells {A = A} (Err fault) expected
+Tells-same A (Wire fault) expected e = e
+Tells-same A (NotUtf8 at) expected e = e
+Tells-same A (TooDeep at) expected e = e
+Tells-same A OutOfMemory expected e = tt
 
 -- ---- the loop over the records
 

@@ -4,3 +4,5 @@ pub mod FaultLemmas
 pub mod ReadingLemmas
 pub mod FieldLemmas
 pub mod LawLemmas
+pub mod SpellLemmas
+pub mod ScalarLemmas

@@ -140,3 +140,11 @@ Gives (Err (Wire fault)) expected = expected ≡ Err (Wire fault)
 Gives (Err (NotUtf8 at)) expected = expected ≡ Err (NotUtf8 at)
 Gives (Err (TooDeep at)) expected = expected ≡ Err (TooDeep at)
 Gives (Err OutOfMemory) expected = Unit {0}
+
+-- the call tells whether there is this first fault, unless memory ran out
+abbrev pub Tells : {A : Type 0} → Result A MessageFault → Option MessageFault → Type 0
+Tells (Ok found) expected = expected ≡ None
+Tells (Err (Wire fault)) expected = expected ≡ Some (Wire fault)
+Tells (Err (NotUtf8 at)) expected = expected ≡ Some (NotUtf8 at)
+Tells (Err (TooDeep at)) expected = expected ≡ Some (TooDeep at)
+Tells (Err OutOfMemory) expected = Unit {0}

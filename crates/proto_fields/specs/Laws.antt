@@ -1,5 +1,6 @@
 -- Laws over the definitions, for all bytes.
-use Rattle.std.specs.Prelude.{◌≡◌, ℕ, suc, ◌⊎◌, ◌↔◌, List, [], ◌++◌, map, Some, None}
+use Rattle.std.specs.Prelude.{◌≡◌, ℕ, ℤ, Bool, FitsSigned, suc, ◌⊎◌, ◌↔◌, List, [], ◌++◌, map, Some, None}
+use Rattle.std.specs.Int.{w32, w64}
 use Rattle.std.specs.List.{AllByRecursion}
 use Rattle.proto_wire.specs.declared.fault.WireFault.{WireFault}
 use Rattle.proto_wire.specs.declared.field.WireField.{WireField}
@@ -8,7 +9,9 @@ use Rattle.proto_wire.specs.Records.{Records}
 use Rattle.proto_wire.specs.Faults.{WireFaulty}
 use Rattle.proto_fields.specs.declared.fault.MessageFault.{MessageFault}
 use Rattle.proto_fields.specs.declared.kind.MessageKind.{MessageKind}
-use Rattle.proto_fields.specs.Fields.{field_in, fields_of, IsMessage}
+use Rattle.proto_fields.specs.Fields.{Field, field_in, fields_of, IsMessage}
+use Rattle.proto_fields.specs.Readings.{int32_of, int64_of, bool_of}
+use Rattle.proto_fields.specs.Spelling.{spell, IsWritable, bits_of, bit_of}
 use Rattle.proto_fields.specs.Faults.{IsSound, IsSoundField, HasFault, first_fault}
 
 -- the fields of bytes are those of their records
@@ -51,3 +54,18 @@ FaultIsOne = (levels : ℕ) (kind : MessageKind) (base : ℕ) (bytes : List ℕ)
 abbrev pub SoundIsNotFaulty : Type 0
 SoundIsNotFaulty = (levels : ℕ) (kind : MessageKind) (base : ℕ) (bytes : List ℕ) (fault : MessageFault) →
     IsSound levels kind bytes → ¬ HasFault levels kind base bytes fault
+
+-- writable fields are spelled as a message of these fields
+abbrev pub SpelledIsRead : Type 0
+SpelledIsRead = (fields : List Field) → AllByRecursion IsWritable fields → IsMessage (spell fields) × (fields_of (spell fields) ≡ fields)
+
+-- what they are spelled as is sound exactly where the payload of each is
+abbrev pub SpelledIsSound : Type 0
+SpelledIsSound = (levels : ℕ) (kind : MessageKind) (fields : List Field) → AllByRecursion IsWritable fields →
+    IsSound (suc levels) kind (spell fields) ↔ AllByRecursion (IsSoundField (IsSound levels) kind) fields
+
+-- what a scalar is written as is read as the scalar
+pub record ScalarsReturn : Type 0 where
+  pub int32 : (value : ℤ) → FitsSigned w32 value → int32_of (bits_of value) ≡ value
+  pub int64 : (value : ℤ) → FitsSigned w64 value → int64_of (bits_of value) ≡ value
+  pub boolean : (value : Bool) → bool_of (bit_of value) ≡ value

@@ -155,6 +155,7 @@ pub fn find_fault(alloc: Global, kind: MessageKind, bytes: &[u8]) -> Result<(), 
     ensures fault { IfErr result (spec.IsCause 200 kind bytes.now) }
     // A sound message is found sound, and a fault is the answer.
     ensures accepted { spec.IsSound 200 kind bytes.now → spec.Gives result (Ok tt) }
+    ensures first { spec.Tells result (spec.first_fault 200 kind 0 bytes.now) }
     ensures faulty { (cause : MessageFault) → spec.HasFault 200 kind 0 bytes.now cause → spec.Gives result (Err cause) }
 {
     match message_fault(alloc, MOST_LEVELS, kind, 0, bytes)? {

@@ -1,6 +1,6 @@
-//! Laws over the definitions of fields, soundness and faults, each the contract of a function that does nothing.
+//! Laws over the definitions of fields, soundness, faults and spellings, each the contract of a function that does nothing.
 
-ghost use Rattle.proto_fields.specs.Laws.{FieldsOfRecords, FaultyHaveNoFields, FieldsJoin, SoundByFields, SoundHaveNoFault, FirstFaultIsFault, SoundOrFaulty, FaultIsOne, SoundIsNotFaulty};
+ghost use Rattle.proto_fields.specs.Laws.{FieldsOfRecords, FaultyHaveNoFields, FieldsJoin, SoundByFields, SoundHaveNoFault, FirstFaultIsFault, SoundOrFaulty, FaultIsOne, SoundIsNotFaulty, SpelledIsRead, SpelledIsSound, ScalarsReturn};
 
 /// The fields of bytes are those of their records.
 pub fn fields_of_records()
@@ -45,4 +45,19 @@ pub fn fault_is_one()
 /// A sound message has no fault.
 pub fn sound_is_not_faulty()
     ensures { SoundIsNotFaulty }
+{}
+
+/// Writable fields are spelled as a message of these fields.
+pub fn spelled_is_read()
+    ensures { SpelledIsRead }
+{}
+
+/// What fields are spelled as is sound exactly where the payload of each is.
+pub fn spelled_is_sound()
+    ensures { SpelledIsSound }
+{}
+
+/// What a scalar is written as is read as the scalar.
+pub fn scalars_return()
+    ensures { ScalarsReturn }
 {}

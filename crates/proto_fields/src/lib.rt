@@ -10,13 +10,15 @@ mod oneof;
 mod reading;
 mod record;
 mod table;
+mod writing;
 
 pub use fault::MessageFault;
 pub use finding::find_fault;
 pub use kind::{MessageKind, PayloadKind};
 pub use laws::{
     fault_is_one, faulty_have_no_fields, fields_join, fields_of_records, first_fault_is_fault,
-    sound_by_fields, sound_have_no_fault, sound_is_not_faulty, sound_or_faulty,
+    scalars_return, sound_by_fields, sound_have_no_fault, sound_is_not_faulty, sound_or_faulty,
+    spelled_is_read, spelled_is_sound,
 };
 pub use oneof::{Member, latest};
 pub use reading::{
@@ -26,6 +28,10 @@ pub use reading::{
 };
 pub use record::{Content, Record, records};
 pub use table::{is_member, payload_of};
+pub use writing::{
+    put_bool, put_int32, put_int64, put_optional_bool, put_optional_bytes, put_optional_int32,
+    put_optional_int64, put_optional_text, put_payload, put_text,
+};
 
 #[cfg(test)]
 mod tests;

@@ -6,6 +6,168 @@ ghost use Rattle.proto_fields.specs.Views.{content_of};
 use crate::PayloadKind::{Message, Text};
 use crate::{Content, MessageKind, MessageKind as K, PayloadKind};
 
+/// The payloads of `ExecutePlanRequest`.
+const EXECUTE_PLAN_REQUEST: [(u32, PayloadKind); 6] = [
+    (1, Text),
+    (2, Message(K::UserContext)),
+    (3, Message(K::Plan)),
+    (5, Message(K::RequestOption)),
+    (6, Text),
+    (7, Text),
+];
+
+/// The payloads of `ExecutePlanResponse`.
+const EXECUTE_PLAN_RESPONSE: [(u32, PayloadKind); 6] = [
+    (1, Text),
+    (2, Message(K::ArrowBatch)),
+    (7, Message(K::DataType)),
+    (12, Text),
+    (13, Text),
+    (14, Message(K::Empty)),
+];
+
+/// The payloads of `ReattachExecuteRequest`.
+const REATTACH_EXECUTE_REQUEST: [(u32, PayloadKind); 4] = [
+    (1, Text),
+    (2, Message(K::UserContext)),
+    (3, Text),
+    (5, Text),
+];
+
+/// The payloads of `ReleaseExecuteRequest`.
+const RELEASE_EXECUTE_REQUEST: [(u32, PayloadKind); 5] = [
+    (1, Text),
+    (2, Message(K::UserContext)),
+    (3, Text),
+    (5, Message(K::Empty)),
+    (6, Message(K::ReleaseUntil)),
+];
+
+/// The payloads of `AnalyzePlanRequest`.
+const ANALYZE_PLAN_REQUEST: [(u32, PayloadKind); 5] = [
+    (1, Text),
+    (2, Message(K::UserContext)),
+    (4, Message(K::AnalyzedPlan)),
+    (8, Message(K::AnalyzedPlan)),
+    (10, Message(K::Empty)),
+];
+
+/// The payloads of `AnalyzePlanResponse`.
+const ANALYZE_PLAN_RESPONSE: [(u32, PayloadKind); 4] = [
+    (1, Text),
+    (2, Message(K::SchemaAnswer)),
+    (6, Message(K::IsStreamingAnswer)),
+    (8, Message(K::SparkVersionAnswer)),
+];
+
+/// The payloads of `ConfigRequest`.
+const CONFIG_REQUEST: [(u32, PayloadKind); 3] = [
+    (1, Text),
+    (2, Message(K::UserContext)),
+    (3, Message(K::ConfigOperation)),
+];
+
+/// The payloads of `ConfigOperation`.
+const CONFIG_OPERATION: [(u32, PayloadKind); 7] = [
+    (1, Message(K::ConfigPairs)),
+    (2, Message(K::ConfigKeys)),
+    (3, Message(K::ConfigPairs)),
+    (4, Message(K::ConfigKeys)),
+    (5, Message(K::ConfigPrefix)),
+    (6, Message(K::ConfigKeys)),
+    (7, Message(K::ConfigKeys)),
+];
+
+/// The payloads of `InterruptRequest`.
+const INTERRUPT_REQUEST: [(u32, PayloadKind); 4] = [
+    (1, Text),
+    (2, Message(K::UserContext)),
+    (5, Text),
+    (6, Text),
+];
+
+/// The payloads of `Relation`.
+const RELATION: [(u32, PayloadKind); 18] = [
+    (1, Message(K::RelationCommon)),
+    (2, Message(K::Read)),
+    (3, Message(K::Project)),
+    (4, Message(K::Filter)),
+    (5, Message(K::Join)),
+    (6, Message(K::SetOperation)),
+    (7, Message(K::Sort)),
+    (8, Message(K::Limit)),
+    (9, Message(K::Aggregate)),
+    (11, Message(K::LocalRelation)),
+    (13, Message(K::Offset)),
+    (14, Message(K::Deduplicate)),
+    (15, Message(K::Range)),
+    (16, Message(K::SubqueryAlias)),
+    (18, Message(K::ToDf)),
+    (19, Message(K::WithColumnsRenamed)),
+    (21, Message(K::Drop)),
+    (23, Message(K::WithColumns)),
+];
+
+/// The payloads of `Join`.
+const JOIN: [(u32, PayloadKind); 4] = [
+    (1, Message(K::Relation)),
+    (2, Message(K::Relation)),
+    (3, Message(K::Expression)),
+    (5, Text),
+];
+
+/// The payloads of `Aggregate`.
+const AGGREGATE: [(u32, PayloadKind); 3] = [
+    (1, Message(K::Relation)),
+    (3, Message(K::Expression)),
+    (4, Message(K::Expression)),
+];
+
+/// The payloads of `Drop`.
+const DROP: [(u32, PayloadKind); 3] = [
+    (1, Message(K::Relation)),
+    (2, Message(K::Expression)),
+    (3, Text),
+];
+
+/// The payloads of `Expression`.
+const EXPRESSION: [(u32, PayloadKind); 7] = [
+    (1, Message(K::Literal)),
+    (2, Message(K::UnresolvedAttribute)),
+    (3, Message(K::UnresolvedFunction)),
+    (5, Message(K::UnresolvedStar)),
+    (6, Message(K::Alias)),
+    (7, Message(K::Cast)),
+    (9, Message(K::SortOrder)),
+];
+
+/// The payloads of `Cast`.
+const CAST: [(u32, PayloadKind); 3] = [
+    (1, Message(K::Expression)),
+    (2, Message(K::DataType)),
+    (3, Text),
+];
+
+/// The payloads of `DataType`.
+const DATA_TYPE: [(u32, PayloadKind); 9] = [
+    (1, Message(K::Empty)),
+    (3, Message(K::Empty)),
+    (4, Message(K::Empty)),
+    (5, Message(K::Empty)),
+    (6, Message(K::Empty)),
+    (7, Message(K::Empty)),
+    (11, Message(K::Empty)),
+    (14, Message(K::Empty)),
+    (21, Message(K::StructType)),
+];
+
+/// The payloads of `WriteOperation`.
+const WRITE_OPERATION: [(u32, PayloadKind); 3] = [
+    (1, Message(K::Relation)),
+    (2, Text),
+    (4, Message(K::SaveTable)),
+];
+
 /// The payloads of requests and answers, and of the messages that only these hold.
 fn request_payloads(kind: MessageKind) -> &'static [(u32, PayloadKind)]
     ensures { result.now ≡ kinds.request_payloads kind }
@@ -13,78 +175,25 @@ fn request_payloads(kind: MessageKind) -> &'static [(u32, PayloadKind)]
     match kind {
         K::UserContext => &[(1, Text)],
         K::KeyValue => &[(1, Text), (2, Text)],
-        K::ExecutePlanRequest => &[
-            (1, Text),
-            (2, Message(K::UserContext)),
-            (3, Message(K::Plan)),
-            (5, Message(K::RequestOption)),
-            (6, Text),
-            (7, Text),
-        ],
+        K::ExecutePlanRequest => &EXECUTE_PLAN_REQUEST,
         K::RequestOption => &[(1, Message(K::ReattachOptions))],
-        K::ExecutePlanResponse => &[
-            (1, Text),
-            (2, Message(K::ArrowBatch)),
-            (7, Message(K::DataType)),
-            (12, Text),
-            (13, Text),
-            (14, Message(K::Empty)),
-        ],
-        K::ReattachExecuteRequest => &[
-            (1, Text),
-            (2, Message(K::UserContext)),
-            (3, Text),
-            (5, Text),
-        ],
-        K::ReleaseExecuteRequest => &[
-            (1, Text),
-            (2, Message(K::UserContext)),
-            (3, Text),
-            (5, Message(K::Empty)),
-            (6, Message(K::ReleaseUntil)),
-        ],
+        K::ExecutePlanResponse => &EXECUTE_PLAN_RESPONSE,
+        K::ReattachExecuteRequest => &REATTACH_EXECUTE_REQUEST,
+        K::ReleaseExecuteRequest => &RELEASE_EXECUTE_REQUEST,
         K::ReleaseUntil => &[(1, Text)],
         K::ReleaseExecuteResponse => &[(1, Text), (2, Text)],
-        K::AnalyzePlanRequest => &[
-            (1, Text),
-            (2, Message(K::UserContext)),
-            (4, Message(K::AnalyzedPlan)),
-            (8, Message(K::AnalyzedPlan)),
-            (10, Message(K::Empty)),
-        ],
+        K::AnalyzePlanRequest => &ANALYZE_PLAN_REQUEST,
         K::AnalyzedPlan => &[(1, Message(K::Plan))],
-        K::AnalyzePlanResponse => &[
-            (1, Text),
-            (2, Message(K::SchemaAnswer)),
-            (6, Message(K::IsStreamingAnswer)),
-            (8, Message(K::SparkVersionAnswer)),
-        ],
+        K::AnalyzePlanResponse => &ANALYZE_PLAN_RESPONSE,
         K::SchemaAnswer => &[(1, Message(K::DataType))],
         K::SparkVersionAnswer => &[(1, Text)],
-        K::ConfigRequest => &[
-            (1, Text),
-            (2, Message(K::UserContext)),
-            (3, Message(K::ConfigOperation)),
-        ],
-        K::ConfigOperation => &[
-            (1, Message(K::ConfigPairs)),
-            (2, Message(K::ConfigKeys)),
-            (3, Message(K::ConfigPairs)),
-            (4, Message(K::ConfigKeys)),
-            (5, Message(K::ConfigPrefix)),
-            (6, Message(K::ConfigKeys)),
-            (7, Message(K::ConfigKeys)),
-        ],
+        K::ConfigRequest => &CONFIG_REQUEST,
+        K::ConfigOperation => &CONFIG_OPERATION,
         K::ConfigPairs => &[(1, Message(K::KeyValue))],
         K::ConfigKeys => &[(1, Text)],
         K::ConfigPrefix => &[(1, Text)],
         K::ConfigResponse => &[(1, Text), (2, Message(K::KeyValue))],
-        K::InterruptRequest => &[
-            (1, Text),
-            (2, Message(K::UserContext)),
-            (5, Text),
-            (6, Text),
-        ],
+        K::InterruptRequest => &INTERRUPT_REQUEST,
         K::InterruptResponse => &[(1, Text), (2, Text)],
         _ => &[],
     }
@@ -96,55 +205,23 @@ fn relation_payloads(kind: MessageKind) -> &'static [(u32, PayloadKind)]
 {
     match kind {
         K::Plan => &[(1, Message(K::Relation)), (2, Message(K::Command))],
-        K::Relation => &[
-            (1, Message(K::RelationCommon)),
-            (2, Message(K::Read)),
-            (3, Message(K::Project)),
-            (4, Message(K::Filter)),
-            (5, Message(K::Join)),
-            (6, Message(K::SetOperation)),
-            (7, Message(K::Sort)),
-            (8, Message(K::Limit)),
-            (9, Message(K::Aggregate)),
-            (11, Message(K::LocalRelation)),
-            (13, Message(K::Offset)),
-            (14, Message(K::Deduplicate)),
-            (15, Message(K::Range)),
-            (16, Message(K::SubqueryAlias)),
-            (18, Message(K::ToDf)),
-            (19, Message(K::WithColumnsRenamed)),
-            (21, Message(K::Drop)),
-            (23, Message(K::WithColumns)),
-        ],
+        K::Relation => &RELATION,
         K::Read => &[(1, Message(K::NamedTable))],
         K::NamedTable => &[(1, Text)],
         K::Project => &[(1, Message(K::Relation)), (3, Message(K::Expression))],
         K::Filter => &[(1, Message(K::Relation)), (2, Message(K::Expression))],
-        K::Join => &[
-            (1, Message(K::Relation)),
-            (2, Message(K::Relation)),
-            (3, Message(K::Expression)),
-            (5, Text),
-        ],
+        K::Join => &JOIN,
         K::SetOperation => &[(1, Message(K::Relation)), (2, Message(K::Relation))],
         K::Sort => &[(1, Message(K::Relation)), (2, Message(K::SortOrder))],
         K::Limit => &[(1, Message(K::Relation))],
         K::Offset => &[(1, Message(K::Relation))],
-        K::Aggregate => &[
-            (1, Message(K::Relation)),
-            (3, Message(K::Expression)),
-            (4, Message(K::Expression)),
-        ],
+        K::Aggregate => &AGGREGATE,
         K::LocalRelation => &[(2, Text)],
         K::SubqueryAlias => &[(1, Message(K::Relation)), (2, Text), (3, Text)],
         K::ToDf => &[(1, Message(K::Relation)), (2, Text)],
         K::WithColumnsRenamed => &[(1, Message(K::Relation)), (2, Message(K::RenameEntry))],
         K::RenameEntry => &[(1, Text), (2, Text)],
-        K::Drop => &[
-            (1, Message(K::Relation)),
-            (2, Message(K::Expression)),
-            (3, Text),
-        ],
+        K::Drop => &DROP,
         K::WithColumns => &[(1, Message(K::Relation)), (2, Message(K::Alias))],
         K::Deduplicate => &[(1, Message(K::Relation)), (2, Text)],
         _ => &[],
@@ -156,45 +233,19 @@ fn expression_payloads(kind: MessageKind) -> &'static [(u32, PayloadKind)]
     ensures { result.now ≡ kinds.expression_payloads kind }
 {
     match kind {
-        K::Expression => &[
-            (1, Message(K::Literal)),
-            (2, Message(K::UnresolvedAttribute)),
-            (3, Message(K::UnresolvedFunction)),
-            (5, Message(K::UnresolvedStar)),
-            (6, Message(K::Alias)),
-            (7, Message(K::Cast)),
-            (9, Message(K::SortOrder)),
-        ],
+        K::Expression => &EXPRESSION,
         K::Literal => &[(1, Message(K::DataType)), (13, Text)],
         K::UnresolvedAttribute => &[(1, Text)],
         K::UnresolvedFunction => &[(1, Text), (2, Message(K::Expression))],
         K::UnresolvedStar => &[(1, Text)],
         K::Alias => &[(1, Message(K::Expression)), (2, Text)],
-        K::Cast => &[
-            (1, Message(K::Expression)),
-            (2, Message(K::DataType)),
-            (3, Text),
-        ],
+        K::Cast => &CAST,
         K::SortOrder => &[(1, Message(K::Expression))],
-        K::DataType => &[
-            (1, Message(K::Empty)),
-            (3, Message(K::Empty)),
-            (4, Message(K::Empty)),
-            (5, Message(K::Empty)),
-            (6, Message(K::Empty)),
-            (7, Message(K::Empty)),
-            (11, Message(K::Empty)),
-            (14, Message(K::Empty)),
-            (21, Message(K::StructType)),
-        ],
+        K::DataType => &DATA_TYPE,
         K::StructType => &[(1, Message(K::StructField))],
         K::StructField => &[(1, Text), (2, Message(K::DataType))],
         K::Command => &[(2, Message(K::WriteOperation))],
-        K::WriteOperation => &[
-            (1, Message(K::Relation)),
-            (2, Text),
-            (4, Message(K::SaveTable)),
-        ],
+        K::WriteOperation => &WRITE_OPERATION,
         K::SaveTable => &[(1, Text)],
         _ => &[],
     }

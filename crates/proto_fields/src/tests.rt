@@ -1,7 +1,7 @@
 use super::*;
 use MessageFault::{NotUtf8, TooDeep, Wire};
 use MessageKind as K;
-use cn_base::Bytes;
+use cn_base::{Bytes, Text};
 use proto_wire::{WireFault, put_span};
 use std::alloc::{AllocError, Global};
 use std::process::Abort;
@@ -275,6 +275,57 @@ fn a_scalar_is_a_member_by_its_wire_type(rt: HostRuntime) -> Result<(), Fail> {
     let literal = latest(K::Literal, scalars.as_slice()).ok_or("no member")?;
     assert_eq!(rt; literal.number, 7);
     assert_eq!(rt; optional_int64(literal.since, 7), Some(2));
+    Ok(())
+}
+
+#[test]
+fn fields_are_spelled_shortest(rt: HostRuntime) -> Result<(), Fail> {
+    // A plan of the range from 0, which is present, to 3 by 1.
+    let mut range = Bytes::new(rt.alloc());
+    put_optional_int64(&mut range, 1, Some(0))?;
+    put_int64(&mut range, 2, 3)?;
+    put_int64(&mut range, 3, 1)?;
+    put_optional_int32(&mut range, 4, None)?;
+    let mut relation = Bytes::new(rt.alloc());
+    put_payload(&mut relation, 15, range.as_slice())?;
+    let mut plan = Bytes::new(rt.alloc());
+    put_payload(&mut plan, 1, relation.as_slice())?;
+    let written: &[u8] = b"\x0a\x08\x7a\x06\x08\x00\x10\x03\x18\x01";
+    assert_eq!(rt; plan.as_slice(), written);
+    // Below 0, an int32 and an int64 alike.
+    let negative: &[u8] = b"\x10\xff\xff\xff\xff\xff\xff\xff\xff\xff\x01";
+    let mut number = Bytes::new(rt.alloc());
+    put_int32(&mut number, 2, -1)?;
+    assert_eq!(rt; number.as_slice(), negative);
+    let mut number = Bytes::new(rt.alloc());
+    put_optional_int32(&mut number, 2, Some(-1))?;
+    assert_eq!(rt; number.as_slice(), negative);
+    let mut number = Bytes::new(rt.alloc());
+    put_int64(&mut number, 2, -1)?;
+    assert_eq!(rt; number.as_slice(), negative);
+    Ok(())
+}
+
+#[test]
+fn defaults_are_left_out_and_present_ones_written(rt: HostRuntime) -> Result<(), Fail> {
+    let mut out = Bytes::new(rt.alloc());
+    put_int32(&mut out, 1, 0)?;
+    put_int64(&mut out, 2, 0)?;
+    put_bool(&mut out, 3, false)?;
+    put_text(&mut out, 4, "")?;
+    put_optional_int64(&mut out, 5, None)?;
+    put_optional_bool(&mut out, 6, None)?;
+    put_optional_text(&mut out, 7, &None)?;
+    put_optional_bytes(&mut out, 8, &None)?;
+    assert_eq!(rt; out.as_slice(), b"".as_slice());
+    put_bool(&mut out, 3, true)?;
+    put_text(&mut out, 1, "a")?;
+    put_optional_bool(&mut out, 3, Some(false))?;
+    put_optional_bool(&mut out, 3, Some(true))?;
+    put_optional_text(&mut out, 2, &Some(Text::new(rt.alloc())))?;
+    put_optional_bytes(&mut out, 1, &Some(Bytes::of(rt.alloc(), b"\xff")?))?;
+    let written: &[u8] = b"\x18\x01\x0a\x01a\x18\x00\x18\x01\x12\x00\x0a\x01\xff";
+    assert_eq!(rt; out.as_slice(), written);
     Ok(())
 }
 

@@ -2,7 +2,8 @@
 use Rattle.std.proofs.Common.{◌≡◌, Err, sym, ap, ◌∙◌, arith}
 use Rattle.proto_wire.specs.Varint.{IsBytes}
 use Rattle.proto_fields.specs.declared.fault.MessageFault.{MessageFault}
-use Rattle.proto_fields.proofs.FaultLemmas.{sound_from_none, none_from_sound, fault_from_some, some_from_fault, IsCause-from_fault, Gives-same}
+use Rattle.proto_fields.specs.Faults.{first_fault}
+use Rattle.proto_fields.proofs.FaultLemmas.{sound_from_none, none_from_sound, fault_from_some, some_from_fault, IsCause-from_fault, Gives-same, Tells-same}
 use Rattle.proto_fields.proofs.finding.find_fault.Goals as goal
 
 pub returns-in-None-clause-sound : goal.returns-in-None-clause-sound
@@ -27,6 +28,10 @@ returns-in-Some-clause-accepted c sound =
     let none = none_from_sound 200 c.args.kind 0 c.args.bytes.now sound in
     let some = sym c.in_ok-message_fault.ensures ∙ c.in-Some.is in
     absurd cc
+
+pub returns-in-Some-clause-first : goal.returns-in-Some-clause-first
+returns-in-Some-clause-first c =
+    Tells-same (Unit {0}) c.in-Some.fault (first_fault 200 c.args.kind 0 c.args.bytes.now) (sym c.in_ok-message_fault.ensures ∙ c.in-Some.is)
 
 pub returns-in-Some-clause-faulty : goal.returns-in-Some-clause-faulty
 returns-in-Some-clause-faulty c cause has =
