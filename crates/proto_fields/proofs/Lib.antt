@@ -6,3 +6,4 @@ pub mod FieldLemmas
 pub mod LawLemmas
 pub mod SpellLemmas
 pub mod ScalarLemmas
+pub mod ReturnLemmas

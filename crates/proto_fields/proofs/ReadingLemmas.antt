@@ -9,11 +9,11 @@ use Rattle.std.proofs.Math.ListN.{get_or-map}
 use Rattle.std.proofs.lemmas.List.Sums.{suffix_len-take_yes, suffix_len-take_no}
 use Rattle.proto_fields.specs.Readings.{last_some}
 
-option_or-assoc : {A : Type 0} → (a b c : Option A) → option_or (option_or a b) c ≡ option_or a (option_or b c)
+pub option_or-assoc : {A : Type 0} → (a b c : Option A) → option_or (option_or a b) c ≡ option_or a (option_or b c)
 option_or-assoc None b c = refl
 option_or-assoc (Some x) b c = refl
 
-option_or-none : {A : Type 0} → (a : Option A) → option_or a None ≡ a
+pub option_or-none : {A : Type 0} → (a : Option A) → option_or a None ≡ a
 option_or-none None = refl
 option_or-none (Some x) = refl
 

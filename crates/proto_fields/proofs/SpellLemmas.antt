@@ -1,11 +1,9 @@
 -- What fields are spelled as is read as these fields, and is sound where their payloads are.
-use Rattle.std.proofs.Common.{◌≡◌, ℕ, suc, ◌+◌, ◌^◌, ◌<◌, ◌≤◌, ◌↔◌, List, [], ◌∷◌, ◌++◌, length, map, refl, sym, ap, ◌∙◌, subst, arith}
+use Rattle.std.proofs.Common.{◌≡◌, ℕ, suc, ◌+◌, ◌^◌, ◌<◌, ◌≤◌, ◌↔◌, List, [], ◌∷◌, ◌++◌, length, refl, sym, ap, ◌∙◌, subst}
 use Rattle.std.specs.Prelude.{slice_range}
 use Rattle.std.specs.List.{AllByRecursion}
 use Rattle.std.proofs.lemmas.List.{append-nil}
-use Rattle.proto_wire.specs.declared.field.WireField.{WireField}
-use Rattle.proto_wire.specs.Varint.{varint}
-use Rattle.proto_wire.specs.Records.{RecordsFrom, Records, number_record, span_record, number_field, payload_place, span_field}
+use Rattle.proto_wire.specs.Records.{Records, number_record, span_record, number_field, payload_place, span_field}
 use Rattle.proto_wire.proofs.Written.{number_first, span_first, payload_read}
 use Rattle.proto_fields.specs.declared.kind.MessageKind.{MessageKind}
 use Rattle.proto_fields.specs.Fields.{Content, Number, Eight, Payload, Four, Field, fields_of, IsMessage}

@@ -1,6 +1,7 @@
 -- Laws over the definitions, for all bytes.
-use Rattle.std.specs.Prelude.{◌≡◌, ℕ, ℤ, Bool, FitsSigned, suc, ◌⊎◌, ◌↔◌, List, [], ◌++◌, map, Some, None}
+use Rattle.std.specs.Prelude.{◌≡◌, ◌≢◌, Option, None, Some, IfSome, IsUtf8, ℕ, ℤ, Bool, FitsSigned, suc, ◌⊎◌, ◌↔◌, List, [], ◌++◌, map}
 use Rattle.std.specs.Int.{w32, w64}
+use Rattle.std.specs.Option.{option_or}
 use Rattle.std.specs.List.{AllByRecursion}
 use Rattle.proto_wire.specs.declared.fault.WireFault.{WireFault}
 use Rattle.proto_wire.specs.declared.field.WireField.{WireField}
@@ -10,8 +11,8 @@ use Rattle.proto_wire.specs.Faults.{WireFaulty}
 use Rattle.proto_fields.specs.declared.fault.MessageFault.{MessageFault}
 use Rattle.proto_fields.specs.declared.kind.MessageKind.{MessageKind}
 use Rattle.proto_fields.specs.Fields.{Field, field_in, fields_of, IsMessage}
-use Rattle.proto_fields.specs.Readings.{int32_of, int64_of, bool_of}
-use Rattle.proto_fields.specs.Spelling.{spell, IsWritable, bits_of, bit_of}
+use Rattle.proto_fields.specs.Readings.{int32_of, int64_of, bool_of, last_number, last_payload, payloads, int32_field, int64_field, bool_field, optional_int32, optional_int64, optional_bool, text_field, optional_text, merged}
+use Rattle.proto_fields.specs.Spelling.{spell, IsWritable, bits_of, bit_of, int_fields, optional_int_fields, bool_fields, optional_bool_fields, text_fields, payload_fields, optional_payload_fields}
 use Rattle.proto_fields.specs.Faults.{IsSound, IsSoundField, HasFault, first_fault}
 
 -- the fields of bytes are those of their records
@@ -69,3 +70,28 @@ pub record ScalarsReturn : Type 0 where
   pub int32 : (value : ℤ) → FitsSigned w32 value → int32_of (bits_of value) ≡ value
   pub int64 : (value : ℤ) → FitsSigned w64 value → int64_of (bits_of value) ≡ value
   pub boolean : (value : Bool) → bool_of (bit_of value) ≡ value
+
+-- a reading of two lists of fields, one after the other
+pub record ReadingsJoin : Type 0 where
+  pub number : (number : ℕ) (front back : List Field) → last_number number (front ++ back) ≡ option_or (last_number number back) (last_number number front)
+  pub payload : (number : ℕ) (front back : List Field) → last_payload number (front ++ back) ≡ option_or (last_payload number back) (last_payload number front)
+  pub repeated : (number : ℕ) (front back : List Field) → payloads number (front ++ back) ≡ payloads number front ++ payloads number back
+
+-- nothing is read of fields of other numbers
+pub record OthersAreSkipped : Type 0 where
+  pub number : (number : ℕ) (fields : List Field) → AllByRecursion (λ field. field.number ≢ number) fields → last_number number fields ≡ None
+  pub payload : (number : ℕ) (fields : List Field) → AllByRecursion (λ field. field.number ≢ number) fields → last_payload number fields ≡ None
+  pub repeated : (number : ℕ) (fields : List Field) → AllByRecursion (λ field. field.number ≢ number) fields → payloads number fields ≡ []
+
+-- what a value is written as is read as the value
+pub record WrittenIsRead : Type 0 where
+  pub int32 : (number : ℕ) (value : ℤ) → FitsSigned w32 value → int32_field number (int_fields number value) ≡ value
+  pub int64 : (number : ℕ) (value : ℤ) → FitsSigned w64 value → int64_field number (int_fields number value) ≡ value
+  pub boolean : (number : ℕ) (value : Bool) → bool_field number (bool_fields number value) ≡ value
+  pub optional_int32 : (number : ℕ) (value : Option ℤ) → IfSome value (FitsSigned w32) → optional_int32 number (optional_int_fields number value) ≡ value
+  pub optional_int64 : (number : ℕ) (value : Option ℤ) → IfSome value (FitsSigned w64) → optional_int64 number (optional_int_fields number value) ≡ value
+  pub optional_bool : (number : ℕ) (value : Option Bool) → optional_bool number (optional_bool_fields number value) ≡ value
+  pub text : (number : ℕ) (text : List ℕ) → IsUtf8 text → text_field number (text_fields number text) ≡ text
+  pub optional_text : (number : ℕ) (text : Option (List ℕ)) → IfSome text IsUtf8 → optional_text number (optional_payload_fields number text) ≡ text
+  pub optional_bytes : (number : ℕ) (bytes : Option (List ℕ)) → last_payload number (optional_payload_fields number bytes) ≡ bytes
+  pub message : (number : ℕ) (fields : List Field) → AllByRecursion IsWritable fields → merged number (payload_fields number (spell fields)) ≡ Some fields

@@ -1,6 +1,6 @@
 -- Spellings of fields, and the fields that scalars, texts and messages are written as. A message is the spellings of its fields, one after
 -- another, each the shortest (Protocol Buffers, Encoding, "Message Structure").
-use Rattle.std.specs.Prelude.{◌≡◌, ℕ, ℤ, ◌==◌, ◌^◌, ◌<◌, ◌≤◌, Bool, if◌then◌else◌, List, [], ◌∷◌, length, flat_map, Option, Some, None, option_map}
+use Rattle.std.specs.Prelude.{ℕ, ℤ, ◌==◌, ◌^◌, ◌<◌, ◌≤◌, Bool, if◌then◌else◌, List, [], ◌∷◌, length, flat_map, Option, Some, None, option_map}
 use Rattle.std.specs.Int.{w64, cast_unsigned}
 use Rattle.proto_wire.specs.Records.{number_record, span_record}
 use Rattle.proto_fields.specs.Fields.{Content, Number, Eight, Payload, Four, Field}

@@ -1,6 +1,6 @@
-//! Laws over the definitions of fields, soundness, faults and spellings, each the contract of a function that does nothing.
+//! Laws over the definitions of fields, soundness, faults, readings and spellings, each the contract of a function that does nothing.
 
-ghost use Rattle.proto_fields.specs.Laws.{FieldsOfRecords, FaultyHaveNoFields, FieldsJoin, SoundByFields, SoundHaveNoFault, FirstFaultIsFault, SoundOrFaulty, FaultIsOne, SoundIsNotFaulty, SpelledIsRead, SpelledIsSound, ScalarsReturn};
+ghost use Rattle.proto_fields.specs.Laws.{FieldsOfRecords, FaultyHaveNoFields, FieldsJoin, SoundByFields, SoundHaveNoFault, FirstFaultIsFault, SoundOrFaulty, FaultIsOne, SoundIsNotFaulty, SpelledIsRead, SpelledIsSound, ScalarsReturn, ReadingsJoin, OthersAreSkipped, WrittenIsRead};
 
 /// The fields of bytes are those of their records.
 pub fn fields_of_records()
@@ -60,4 +60,19 @@ pub fn spelled_is_sound()
 /// What a scalar is written as is read as the scalar.
 pub fn scalars_return()
     ensures { ScalarsReturn }
+{}
+
+/// Two lists of fields, one after the other: the later scalar and text count, and payloads follow one another.
+pub fn readings_join()
+    ensures { ReadingsJoin }
+{}
+
+/// Nothing is read of fields of other numbers.
+pub fn others_are_skipped()
+    ensures { OthersAreSkipped }
+{}
+
+/// What a value is written as is read as the value.
+pub fn written_is_read()
+    ensures { WrittenIsRead }
 {}

@@ -17,8 +17,8 @@ pub use finding::find_fault;
 pub use kind::{MessageKind, PayloadKind};
 pub use laws::{
     fault_is_one, faulty_have_no_fields, fields_join, fields_of_records, first_fault_is_fault,
-    scalars_return, sound_by_fields, sound_have_no_fault, sound_is_not_faulty, sound_or_faulty,
-    spelled_is_read, spelled_is_sound,
+    others_are_skipped, readings_join, scalars_return, sound_by_fields, sound_have_no_fault,
+    sound_is_not_faulty, sound_or_faulty, spelled_is_read, spelled_is_sound, written_is_read,
 };
 pub use oneof::{Member, latest};
 pub use reading::{
