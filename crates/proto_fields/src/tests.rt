@@ -60,7 +60,7 @@ fn has_fault(
 
 #[test]
 fn the_first_fault_has_its_place(rt: HostRuntime) {
-    let table: [(MessageKind, &[u8], MessageFault); 20] = [
+    let table: [(MessageKind, &[u8], MessageFault); 27] = [
         (K::Plan, b"\x0a\x08", truncated(2)),
         (K::Plan, b"\x0a\x08\x7a\x06\x08", truncated(5)),
         (K::Plan, b"\x0a\x08\x7a\x06\x08\x00", truncated(6)),
@@ -73,6 +73,29 @@ fn the_first_fault_has_its_place(rt: HostRuntime) {
             K::Plan,
             b"\x0a\x08\x7a\x06\x08\x00\x01\x03\x18\x01",
             bad_tag(6),
+        ),
+        (K::Plan, b"\x0a\x17\x42", truncated(3)),
+        (K::Plan, b"\x0a\x17\x42\x15\x0a\x08\x7a", truncated(7)),
+        (
+            K::Plan,
+            b"\x0a\x17\x42\x15\x3c\x08\x7a\x06\x08\x00\x10\x03\x18\x01\x10\xff\xff\xff\xff\xff\xff\xff\xff\xff\x01",
+            bad_tag(4),
+        ),
+        (K::Plan, b"\x12\x15", truncated(2)),
+        (
+            K::Plan,
+            b"\x12\x15\x12\x13\x0a\x08\x7a\x06\x08\x05\x10\x06\x18\x01\x22\x05\x0a",
+            truncated(17),
+        ),
+        (
+            K::Plan,
+            b"\x12\x15\x7f\x13\x0a\x08\x7a\x06\x08\x05\x10\x06\x18\x01\x22\x05\x0a\x01\x74\x10\x01\x28\x01",
+            bad_tag(2),
+        ),
+        (
+            K::Plan,
+            b"\x12\x15\x12\x13\x0a\x08\x7a\x06\x08\x05\x10\x06\x18\x01\x22\x05\x0a\x01\x74\x10\x01\x7f\x9e",
+            bad_tag(21),
         ),
         // Within the inner message, at its end.
         (K::Plan, b"\x0a\x04\x7a\x06\x08\x00", truncated(6)),
