@@ -45,6 +45,28 @@ fn sound_messages_are_found_sound(rt: HostRuntime) -> Result<(), Fail> {
     Ok(())
 }
 
+#[test]
+fn payloads_are_what_the_public_files_say(rt: HostRuntime) {
+    let table = [
+        (K::Plan, 2, PayloadKind::Message(K::Command)),
+        (K::ExecutePlanRequest, 6, PayloadKind::Text),
+        (K::ExecutePlanRequest, 4, PayloadKind::Other),
+        (K::Relation, 23, PayloadKind::Message(K::WithColumns)),
+        (K::Relation, 20, PayloadKind::Other),
+        (K::StructField, 2, PayloadKind::Message(K::DataType)),
+        (K::LocalRelation, 1, PayloadKind::Other),
+        (K::Empty, 1, PayloadKind::Other),
+    ];
+    for (kind, number, payload) in table {
+        assert_eq!(rt; payload_of(kind, number), payload, "{kind:?} {number}");
+    }
+    assert!(rt; is_member(K::Plan, 1, &Content::Payload(b"")));
+    assert!(rt; !is_member(K::Plan, 1, &Content::Number(0)));
+    assert!(rt; !is_member(K::Relation, 1, &Content::Payload(b"")));
+    assert!(rt; is_member(K::Relation, 20, &Content::Payload(b"")));
+    assert!(rt; is_member(K::Literal, 16, &Content::Number(0)));
+}
+
 fn has_fault(
     rt: &impl Abort,
     alloc: Global,
