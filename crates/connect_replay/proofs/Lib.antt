@@ -4,3 +4,4 @@ pub mod Numbers
 pub mod Told
 pub mod Walk
 pub mod Written
+pub mod Messages

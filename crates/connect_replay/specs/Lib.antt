@@ -4,3 +4,4 @@ pub mod Range
 pub mod Section
 pub mod Outcome
 pub mod Exit
+pub mod Message

@@ -2,6 +2,7 @@
 #![tactic(auto)]
 
 mod ask;
+mod message;
 mod range;
 mod reading;
 mod replay;

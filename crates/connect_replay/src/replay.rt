@@ -5,6 +5,7 @@ ghost use Rattle.connect_replay.specs.Ask.{IsNoScript};
 ghost use Rattle.connect_replay.specs.Outcome.{Leaves, Prints, PrintsSection};
 
 use crate::ask::parse_script;
+use crate::message::range_of_message;
 use crate::range::range_numbers;
 use crate::reading::read_start;
 use crate::section::section_text;
@@ -74,6 +75,7 @@ fn play(alloc: Global, script: &[u8]) -> Result<Option<Text>, OutOfMemory>
     let Some(ask) = parse_script(alloc, script)? else {
         return Ok(None);
     };
-    let numbers = range_numbers(alloc, ask.start, ask.end, ask.step)?;
+    let range = range_of_message(alloc, &ask)?;
+    let numbers = range_numbers(alloc, range.start.unwrap_or(0), range.end, range.step)?;
     Ok(Some(section_text(alloc, &ask, numbers.as_slice())?))
 }

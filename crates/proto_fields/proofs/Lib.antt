@@ -7,3 +7,5 @@ pub mod LawLemmas
 pub mod SpellLemmas
 pub mod ScalarLemmas
 pub mod ReturnLemmas
+pub mod SpellPieces
+pub mod PieceLemmas

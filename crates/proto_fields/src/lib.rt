@@ -9,6 +9,7 @@ mod laws;
 mod oneof;
 mod reading;
 mod record;
+mod size;
 mod table;
 mod writing;
 
@@ -27,6 +28,7 @@ pub use reading::{
     text_field, texts, uint32_field,
 };
 pub use record::{Content, Record, records};
+pub use size::{head_size, int_size, optional_int32_size, optional_int64_size};
 pub use table::{is_member, payload_of};
 pub use writing::{
     put_bool, put_int32, put_int64, put_optional_bool, put_optional_bytes, put_optional_int32,

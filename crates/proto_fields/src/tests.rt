@@ -375,6 +375,24 @@ fn defaults_are_left_out_and_present_ones_written(rt: HostRuntime) -> Result<(),
 }
 
 #[test]
+fn sizes_are_those_of_what_is_written(rt: HostRuntime) -> Result<(), Fail> {
+    for value in [0, 1, 127, 128, -1, i64::MAX, i64::MIN] {
+        let mut out = Bytes::new(rt.alloc());
+        put_int64(&mut out, 2, value)?;
+        assert_eq!(rt; int_size(2, value), out.as_slice().len() as u64, "{value}");
+        let mut out = Bytes::new(rt.alloc());
+        put_optional_int64(&mut out, 16, Some(value))?;
+        let size = optional_int64_size(16, Some(value));
+        assert_eq!(rt; size, out.as_slice().len() as u64, "{value}");
+    }
+    assert_eq!(rt; optional_int32_size(1, Some(-1)), 11);
+    assert_eq!(rt; optional_int32_size(1, None), 0);
+    assert_eq!(rt; head_size(15, 127), 2);
+    assert_eq!(rt; head_size(16, 128), 4);
+    Ok(())
+}
+
+#[test]
 fn faults_are_printed(rt: HostRuntime) -> Result<(), Fail> {
     let table = [
         (truncated(7), "the input ends inside a record, at 7"),

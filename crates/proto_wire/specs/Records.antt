@@ -71,6 +71,10 @@ Records bytes fields = RecordsFrom 0 bytes fields
 abbrev pub number_record : ℕ → ℕ → List ℕ
 number_record number value = varint (number * 8) ++ varint value
 
+-- what stands before a payload of this length in the shortest spelling of a record of wire type 2
+abbrev pub span_head : ℕ → ℕ → List ℕ
+span_head number size = varint (number * 8 + 2) ++ varint size
+
 -- the shortest spelling of a record of wire type 2
 abbrev pub span_record : ℕ → List ℕ → List ℕ
 span_record number payload = varint (number * 8 + 2) ++ varint (length payload) ++ payload

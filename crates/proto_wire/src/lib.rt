@@ -16,7 +16,7 @@ pub use laws::{
     span_is_slice, varint_is_shortest,
 };
 pub use reading::wire_fields;
-pub use writing::{put_number, put_span, put_varint};
+pub use writing::{put_number, put_span, put_span_head, put_varint, varint_length};
 
 #[cfg(test)]
 mod tests;

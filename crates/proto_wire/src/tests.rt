@@ -158,6 +158,18 @@ fn the_shortest_spelling_is_appended(rt: HostRuntime) -> Result<(), Fail> {
 }
 
 #[test]
+fn a_payload_may_follow_its_head(rt: HostRuntime) -> Result<(), Fail> {
+    let mut out = Bytes::new(rt.alloc());
+    put_span_head(&mut out, 15, 300)?;
+    let head: &[u8] = b"\x7a\xac\x02";
+    assert_eq!(rt; out.as_slice(), head);
+    for (value, length) in [(0, 1), (127, 1), (128, 2), (u64::MAX, 10)] {
+        assert_eq!(rt; varint_length(value), length, "{value}");
+    }
+    Ok(())
+}
+
+#[test]
 fn faults_are_printed(rt: HostRuntime) -> Result<(), Fail> {
     let table = [
         (

@@ -1,6 +1,6 @@
 ghost use Rattle.std.specs.Prelude.{◌≡◌, ◌+◌, ◌<◌, ◌≤◌, ◌++◌, length, take, OnOk, OnErr};
 ghost use Rattle.proto_wire.specs.Varint.{varint};
-ghost use Rattle.proto_wire.specs.Records.{number_record, span_record};
+ghost use Rattle.proto_wire.specs.Records.{number_record, span_head, span_record};
 
 use cn_base::{Bytes, OutOfMemory};
 
@@ -47,6 +47,29 @@ pub fn put_number(out: &mut Bytes, number: u32, value: u64) -> Result<(), OutOfM
     let mut head = [0; HEAD_BYTES];
     let tag_end = spell_varint(&mut head, 0, u64::from(number) * 8);
     let end = spell_varint(&mut head, tag_end, value);
+    out.append(&head[..end])
+}
+
+/// How many bytes the shortest varint of a value has, from 1 to 10 ("Base 128 Varints"). It takes no memory.
+pub fn varint_length(value: u64) -> usize
+    ensures exact { result ≡ length (varint value) }
+    ensures few { result ≤ 10 }
+{
+    let mut head = [0; VARINT_BYTES];
+    spell_varint(&mut head, 0, value)
+}
+
+/// Appends what stands before a payload of this length in the shortest record of wire type 2, so that the payload may be appended piece by
+/// piece. Where memory runs out, nothing is changed.
+pub fn put_span_head(out: &mut Bytes, number: u32, length: u64) -> Result<(), OutOfMemory>
+    requires low { 1 ≤ number }
+    requires high { number ≤ 536870911 }
+    ensures ok { OnOk result (out.new ≡ out.old ++ span_head number length) }
+    ensures err { OnErr result (out.new ≡ out.old) }
+{
+    let mut head = [0; HEAD_BYTES];
+    let tag_end = spell_varint(&mut head, 0, u64::from(number) * 8 + 2);
+    let end = spell_varint(&mut head, tag_end, length);
     out.append(&head[..end])
 }
 

@@ -1,0 +1,3 @@
+pub mod SpelledPlans
+pub mod RangeBack
+pub mod ReadBack

@@ -1,0 +1,4 @@
+-- The meanings of messages, and their spellings.
+pub mod Plans
+pub mod Spelled
+pub mod Laws
