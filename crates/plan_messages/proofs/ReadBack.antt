@@ -1,12 +1,12 @@
 -- What plans are spelled as is read as the plans.
-use Rattle.std.proofs.Common.{◌≡◌, ℕ, suc, ◌+◌, ◌<◌, ◌≤◌, ◌^◌, List, [], ◌∷◌, ◌++◌, length, refl, sym, ap, ◌∙◌, arith}
-use Rattle.std.specs.List.{AllByRecursion, after_last}
+use Rattle.std.proofs.Common.{◌≡◌, ℕ, ◌≤◌, List, [], ◌++◌, length, refl, ap, ◌∙◌, arith}
+use Rattle.std.specs.List.{AllByRecursion}
 use Rattle.std.proofs.lemmas.List.{append-nil}
 use Rattle.proto_fields.specs.declared.kind.MessageKind.TheVariants as kinds
 use Rattle.proto_fields.specs.Fields.{Field, fields_of}
 use Rattle.proto_fields.specs.Kinds.{is_member, payload_of}
 use Rattle.proto_fields.specs.Readings.{last_some, payloads, latest}
-use Rattle.proto_fields.specs.Faults.{IsSoundField, IsSound}
+use Rattle.proto_fields.specs.Faults.{IsSound}
 use Rattle.proto_fields.specs.Spelling.{spell, IsWritable, payload_fields}
 use Rattle.proto_fields.proofs.SpellLemmas.{spelled_message, spelled_sound}
 use Rattle.proto_fields.proofs.PieceLemmas.{payload_writable, payload_length}

@@ -1,8 +1,6 @@
 -- The spellings of plans and their messages, in the pieces that are written.
-use Rattle.std.proofs.Common.{◌≡◌, ℕ, ℤ, ◌+◌, List, [], ◌∷◌, ◌++◌, length, refl, sym, ap, ◌∙◌, append_assoc, length-append, arith}
-use Rattle.std.specs.Prelude.{Option}
+use Rattle.std.proofs.Common.{◌≡◌, ℕ, ◌+◌, List, ◌++◌, length, sym, ap, ◌∙◌, append_assoc, length-append, arith}
 use Rattle.proto_wire.specs.Records.{span_head}
-use Rattle.proto_fields.specs.Fields.{Field}
 use Rattle.proto_fields.specs.Spelling.{spell, int_fields, optional_int_fields, payload_fields}
 use Rattle.proto_fields.proofs.SpellPieces.{spell-append, spell-payload}
 use Rattle.plan_messages.specs.declared.range.Range.{Range}

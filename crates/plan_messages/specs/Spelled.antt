@@ -8,7 +8,6 @@ use Rattle.plan_messages.specs.declared.relation.Relation.{Relation}
 use Rattle.plan_messages.specs.declared.relation.Relation.TheVariants as relation
 use Rattle.plan_messages.specs.declared.plan.Plan.{Plan}
 use Rattle.plan_messages.specs.declared.plan.Plan.TheVariants.{Root, Command as IsCommand}
-use Rattle.plan_messages.specs.declared.plan.Command.{Command}
 use Rattle.plan_messages.specs.declared.plan.Command.TheVariants as command
 
 -- ---- what has a spelling

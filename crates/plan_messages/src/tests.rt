@@ -4,13 +4,17 @@ use proto_fields::MessageFault;
 use proto_wire::WireFault;
 use std::test::Fail;
 
-fn range(start: Option<i64>, end: i64, step: i64, num_partitions: Option<i32>) -> Plan {
-    Plan::Root(Relation::Range(Range {
+fn numbers(start: Option<i64>, end: i64, step: i64, num_partitions: Option<i32>) -> Range {
+    Range {
         start,
         end,
         step,
         num_partitions,
-    }))
+    }
+}
+
+fn range(start: Option<i64>, end: i64, step: i64, num_partitions: Option<i32>) -> Plan {
+    Plan::Root(Relation::Range(numbers(start, end, step, num_partitions)))
 }
 
 #[test]
@@ -69,20 +73,21 @@ fn plans_are_read(rt: HostRuntime) -> Result<(), Fail> {
 
 #[test]
 fn plans_are_written(rt: HostRuntime) -> Result<(), Fail> {
-    let table: [(Plan, &[u8]); 5] = [
+    let table: [(Range, &[u8]); 5] = [
         (
-            range(Some(0), 3, 1, None),
+            numbers(Some(0), 3, 1, None),
             b"\x0a\x08\x7a\x06\x08\x00\x10\x03\x18\x01",
         ),
-        (range(None, 3, 0, None), b"\x0a\x04\x7a\x02\x10\x03"),
-        (range(None, 0, 0, None), b"\x0a\x02\x7a\x00"),
-        (range(None, 0, 0, Some(0)), b"\x0a\x04\x7a\x02\x20\x00"),
+        (numbers(None, 3, 0, None), b"\x0a\x04\x7a\x02\x10\x03"),
+        (numbers(None, 0, 0, None), b"\x0a\x02\x7a\x00"),
+        (numbers(None, 0, 0, Some(0)), b"\x0a\x04\x7a\x02\x20\x00"),
         (
-            range(Some(-2), 0, 0, Some(-1)),
+            numbers(Some(-2), 0, 0, Some(-1)),
             b"\x0a\x18\x7a\x16\x08\xfe\xff\xff\xff\xff\xff\xff\xff\xff\x01\x20\xff\xff\xff\xff\xff\xff\xff\xff\xff\x01",
         ),
     ];
-    for (plan, bytes) in table {
+    for (range, bytes) in table {
+        let plan = Plan::Root(Relation::Range(range));
         let spelled = encode_plan(rt.alloc(), &plan)?;
         assert_eq!(rt; spelled.as_slice(), bytes, "{plan:?}");
         assert_eq!(rt; decode_plan(rt.alloc(), bytes)?, plan, "{bytes:?}");

@@ -1,13 +1,12 @@
 -- The fields that scalars, optional scalars and payloads are written as: that they have a spelling, how long it is, and that a number is sound.
-use Rattle.std.proofs.Common.{◌≡◌, ℕ, ℤ, ◌+◌, ◌*◌, ◌<◌, ◌≤◌, ◌^◌, ◌==◌, Bool, true, false, List, [], ◌∷◌, ◌++◌, length, refl, ap, arith, length-append}
-use Rattle.std.specs.Prelude.{Option, Some, None, option_map, IfSome, FitsSigned, if◌then◌else◌}
+use Rattle.std.proofs.Common.{ℕ, ℤ, ◌+◌, ◌*◌, ◌<◌, ◌≤◌, ◌^◌, ◌==◌, Bool, true, false, List, [], ◌∷◌, ◌++◌, length, ap, arith, length-append}
+use Rattle.std.specs.Prelude.{Option, Some, None, IfSome, FitsSigned, if◌then◌else◌}
 use Rattle.std.specs.Int.{w32, w64}
 use Rattle.std.specs.List.{AllByRecursion}
 use Rattle.std.proofs.lemmas.Int.{ints}
 use Rattle.proto_wire.specs.Varint.{varint}
 use Rattle.proto_wire.proofs.VarintLaws.{length-varint}
 use Rattle.proto_fields.specs.declared.kind.MessageKind.{MessageKind}
-use Rattle.proto_fields.specs.Fields.{Field}
 use Rattle.proto_fields.specs.Faults.{IsSoundField}
 use Rattle.proto_fields.specs.Spelling.{spell, IsWritable, number_fields, payload_fields, int_fields, optional_int_fields, bits_of}
 use Rattle.proto_fields.proofs.SpellPieces.{spell-payload}

@@ -1,5 +1,5 @@
-use Rattle.std.proofs.Common.{◌≡◌, ℕ, List, refl, sym, ap, ◌∙◌, subst, SFits, w64, rules}
-use Rattle.std.specs.Prelude.{Result, Ok}
+use Rattle.std.proofs.Common.{◌≡◌, sym, ap, ◌∙◌, subst, SFits, w64, rules}
+use Rattle.std.specs.Prelude.{Ok}
 use Rattle.proto_fields.specs.Faults.{Gives}
 use Rattle.proto_fields.specs.Spelling.{spell}
 use Rattle.plan_messages.specs.declared.plan.Plan.{Plan}
@@ -16,9 +16,9 @@ range_of_root-requires c =
     let step : SFits w64 c.args.ask.now.step = search rules in
     let bits : HasPlanBits asked = record { start = start; end = end; step = step; num_partitions = tt } in
     let spelled : c.as_slice.result.now ≡ spell (plan_fields asked) =
-      c.as_slice.ensures ∙ c.in_ok-message.ensures ∙ ap (λ (p : Plan). spell (plan_fields p)) c.plan_of_ask.ensures in
+    c.as_slice.ensures ∙ c.in_ok-message.ensures ∙ ap (λ (p : Plan). spell (plan_fields p)) c.plan_of_ask.ensures in
     let gives : Gives c.decode_plan.result (Ok asked) =
-      spelled_is_given asked tt bits c.as_slice.result.now spelled c.decode_plan.result c.decode_plan.ensures.read in
+    spelled_is_given asked tt bits c.as_slice.result.now spelled c.decode_plan.result c.decode_plan.ensures.read in
     subst HasRange (sym (given_plan c.decode_plan.result asked c.in-Ok.plan gives c.in-Ok.is)) tt
 
 pub returns-in-Ok : goal.returns-in-Ok
@@ -29,11 +29,11 @@ returns-in-Ok c =
     let step : SFits w64 c.args.ask.now.step = search rules in
     let bits : HasPlanBits asked = record { start = start; end = end; step = step; num_partitions = tt } in
     let spelled : c.as_slice.result.now ≡ spell (plan_fields asked) =
-      c.as_slice.ensures ∙ c.in_ok-message.ensures ∙ ap (λ (p : Plan). spell (plan_fields p)) c.plan_of_ask.ensures in
+    c.as_slice.ensures ∙ c.in_ok-message.ensures ∙ ap (λ (p : Plan). spell (plan_fields p)) c.plan_of_ask.ensures in
     let gives : Gives c.decode_plan.result (Ok asked) =
-      spelled_is_given asked tt bits c.as_slice.result.now spelled c.decode_plan.result c.decode_plan.ensures.read in
+    spelled_is_given asked tt bits c.as_slice.result.now spelled c.decode_plan.result c.decode_plan.ensures.read in
     same_root c.range_of_root.result (asked_range c.args.ask.now)
-      (sym c.range_of_root.ensures ∙ given_plan c.decode_plan.result asked c.in-Ok.plan gives c.in-Ok.is)
+    (sym c.range_of_root.ensures ∙ given_plan c.decode_plan.result asked c.in-Ok.plan gives c.in-Ok.is)
 
 pub want_of_memory-requires : goal.want_of_memory-requires
 want_of_memory-requires c =
@@ -43,7 +43,7 @@ want_of_memory-requires c =
     let step : SFits w64 c.args.ask.now.step = search rules in
     let bits : HasPlanBits asked = record { start = start; end = end; step = step; num_partitions = tt } in
     let spelled : c.as_slice.result.now ≡ spell (plan_fields asked) =
-      c.as_slice.ensures ∙ c.in_ok-message.ensures ∙ ap (λ (p : Plan). spell (plan_fields p)) c.plan_of_ask.ensures in
+    c.as_slice.ensures ∙ c.in_ok-message.ensures ∙ ap (λ (p : Plan). spell (plan_fields p)) c.plan_of_ask.ensures in
     let gives : Gives c.decode_plan.result (Ok asked) =
-      spelled_is_given asked tt bits c.as_slice.result.now spelled c.decode_plan.result c.decode_plan.ensures.read in
+    spelled_is_given asked tt bits c.as_slice.result.now spelled c.decode_plan.result c.decode_plan.ensures.read in
     given_fault c.decode_plan.result asked c.in-Err.fault gives c.in-Err.is

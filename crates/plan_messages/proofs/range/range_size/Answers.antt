@@ -1,4 +1,4 @@
-use Rattle.std.proofs.Common.{◌≡◌, sym, ap, ◌∙◌, arith, SFits, w64, rules}
+use Rattle.std.proofs.Common.{arith, SFits, w64, rules}
 use Rattle.std.proofs.lemmas.Int.{to_z-of_z}
 use Rattle.plan_messages.proofs.SpelledPlans.{length-range}
 use Rattle.plan_messages.proofs.range.range_size.Goals as goal

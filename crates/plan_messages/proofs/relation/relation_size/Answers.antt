@@ -1,4 +1,4 @@
-use Rattle.std.proofs.Common.{◌≡◌, ◌+◌, ℕ, length, sym, ap, ◌∙◌, arith}
+use Rattle.std.proofs.Common.{◌≡◌, ℕ, length, ap, ◌∙◌, arith}
 use Rattle.proto_wire.specs.Records.{span_head}
 use Rattle.proto_fields.specs.Spelling.{spell}
 use Rattle.plan_messages.specs.Spelled.{range_fields}
