@@ -1,0 +1,10 @@
+pub mod FieldLemmas
+pub mod Blocks
+pub mod Sizes
+pub mod Filling
+pub mod Maps
+pub mod Steps
+pub mod Standing
+pub mod Places
+pub mod TableFound
+pub mod ReadBack
