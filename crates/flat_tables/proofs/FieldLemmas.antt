@@ -94,15 +94,18 @@ entry_settled b t v s h has within (suc e) is = inl (Some (t + suc e), record { 
 
 slot_settled : (b : List ℕ) (t v s : ℕ) → IsVtable b t v → Settled b t s
 slot_settled b t v s h = elim (cases_lt (vtable_size b v) (4 + 2 * s + 2)) [
-    inl beyond ↦ inl (None, record { vtable = v; is_vtable = h; says = inl beyond })
+  | inl beyond ↦ inl (None, record { vtable = v; is_vtable = h; says = inl beyond })
   | inr has ↦ elim (cases_lt (length b) (entry_place v s + 2)) [
-      inl out ↦ inr (entry_place v s, no_entry v h has out)
-    | inr within ↦ entry_settled b t v s h has within _ refl ] ]
+    | inl out ↦ inr (entry_place v s, no_entry v h has out)
+    | inr within ↦ entry_settled b t v s h has within _ refl
+  ]
+]
 
 vtable_settled : (b : List ℕ) (t s : ℕ) → t + 4 ≤ length b → (z : ℤ) → vtable_place b t ≡ z → Settled b t s
 vtable_settled b t s h (pos v) e = elim (cases_lt (length b) (v + 2)) [
-    inl out ↦ inr (v, no_vtable v h e out)
-  | inr within ↦ slot_settled b t v s (record { table_within = h; place = e; size_within = within }) ]
+  | inl out ↦ inr (v, no_vtable v h e out)
+  | inr within ↦ slot_settled b t v s (record { table_within = h; place = e; size_within = within })
+]
 vtable_settled b t s h (negsuc n) e = inr (t, below h (rw e (omega (arith, ints))))
 
 pub field_settled : (b : List ℕ) (t s : ℕ) → Settled b t s
@@ -113,13 +116,13 @@ field_settled b t s = elim (cases_lt (length b) (t + 4)) [ inl out ↦ inr (t, n
 pub finds : FindsFields
 finds b t s p = (found (field_settled b t s), field_inside b t s p)
   where
-  found : Settled b t s → field_at b t s ≡ Ok p → FieldAt b t s p
-  found (inl (q, h)) e = let same : q ≡ p = (let f = field_inside b t s q h in cc) in subst (FieldAt b t s) same h
-  found (inr (at, h)) e = absurd (let f = field_outside b t s at h in cc)
+    found : Settled b t s → field_at b t s ≡ Ok p → FieldAt b t s p
+    found (inl (q, h)) e = let same : q ≡ p = (let f = field_inside b t s q h in cc) in subst (FieldAt b t s) same h
+    found (inr (at, h)) e = absurd (let f = field_outside b t s at h in cc)
 
 pub fails : FailsOutside
 fails b t s at = (out (field_settled b t s), field_outside b t s at)
   where
-  out : Settled b t s → field_at b t s ≡ Err (OutOfRange at) → FieldOutside b t s at
-  out (inl (q, h)) e = absurd (let f = field_inside b t s q h in cc)
-  out (inr (k, h)) e = let same : k ≡ at = (let f = field_outside b t s k h in cc) in subst (FieldOutside b t s) same h
+    out : Settled b t s → field_at b t s ≡ Err (OutOfRange at) → FieldOutside b t s at
+    out (inl (q, h)) e = absurd (let f = field_inside b t s q h in cc)
+    out (inr (k, h)) e = let same : k ≡ at = (let f = field_outside b t s k h in cc) in subst (FieldOutside b t s) same h

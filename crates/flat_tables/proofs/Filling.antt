@@ -6,8 +6,8 @@ use Rattle.std.proofs.lemmas.List.{length-replicate, append_assoc, append-nil, t
 use Rattle.flat_tables.specs.declared.object.FlatObject.{FlatObject}
 use Rattle.flat_tables.specs.declared.object.FlatSlot.{FlatSlot}
 use Rattle.flat_tables.specs.declared.object.FlatSlot.TheVariants.{Absent, U8, I16, I32, I64, Object}
-use Rattle.flat_tables.specs.Layout.{Block, zeros, padded, size_of, place_of, end_of, table_size, field_bytes, fields, blank, named, slot_map, vtable_bytes, vector_bytes, table_block, tables_block}
-use Rattle.flat_tables.specs.Building.{with_offset, Names, blank_table}
+use Rattle.flat_tables.specs.Layout.{Block, zeros, padded, size_of, place_of, end_of, table_size, field_bytes, fields, named, slot_map, vtable_bytes, vector_bytes, table_block, tables_block}
+use Rattle.flat_tables.specs.Building.{with_offset, Names, blank_table, blank}
 use Rattle.flat_tables.proofs.Sizes.{length-i64, length-padded}
 use Rattle.flat_tables.proofs.Maps.{blank_table-map, table_size-offsets, fields-offsets}
 
@@ -34,9 +34,15 @@ length-fields end next [] = omega arith
 length-fields end next (slot ∷ slots) =
     let rest : end_of end slot + length (fields (end_of end slot) (next + length (named slot)) slots) ≡ table_size (end_of end slot) slots = length-fields (end_of end slot) (next + length (named slot)) slots in
     let gap : length (zeros (place_of end slot - end)) ≡ place_of end slot - end = length-replicate _ _ in
-    omega (arith, rest, gap, end_after end slot, length-field (place_of end slot) next slot,
+    omega (
+      arith,
+      rest,
+      gap,
+      end_after end slot,
+      length-field (place_of end slot) next slot,
       length-append (zeros (place_of end slot - end)) (field_bytes (place_of end slot) next slot ++ fields (end_of end slot) (next + length (named slot)) slots),
-      length-append (field_bytes (place_of end slot) next slot) (fields (end_of end slot) (next + length (named slot)) slots))
+      length-append (field_bytes (place_of end slot) next slot) (fields (end_of end slot) (next + length (named slot)) slots),
+    )
 
 pub place_of-blank : {O : Type 0} (end : ℕ) (slot : FlatSlot O) → place_of end (blank slot) ≡ place_of end slot
 place_of-blank end Absent = refl
@@ -97,95 +103,128 @@ length_done done table end slot v place size =
 
 -- a slot that names no object is as it will be
 pub plain : (slot : FlatSlot Block) (rest : List (FlatSlot Block)) (final : List ℕ) (table end : ℕ) (out : List ℕ)
-  → ((next : ℕ) → field_bytes (place_of end slot) next slot ≡ field_bytes (place_of end slot) 0 (blank slot)) → named slot ≡ []
-  → Filling (slot ∷ rest) final table end out → Filling rest final table (end_of end slot) out
+    → ((next : ℕ) → field_bytes (place_of end slot) next slot ≡ field_bytes (place_of end slot) 0 (blank slot)) → named slot ≡ []
+    → Filling (slot ∷ rest) final table end out → Filling rest final table (end_of end slot) out
 plain slot rest final table end out same nothing f = record {
-    done = f.done ++ (z ++ v);
-    after = f.after;
-    now = f.now ∙ ap (λ (xs : List ℕ). f.done ++ (xs ++ f.after)) (fields-blank end slot rest) ∙ regroup f.done z v (fields (end_of end slot) 0 (map blank rest)) f.after;
-    later = sym (regroup f.done z v r (f.after ++ kids)) ∙ ap (λ (xs : List ℕ). f.done ++ (xs ++ (f.after ++ kids))) (sym (fields_plain (length out - table)))
+  done = f.done ++ (z ++ v);
+  after = f.after;
+  now = f.now ∙ ap (λ (xs : List ℕ). f.done ++ (xs ++ f.after)) (fields-blank end slot rest) ∙ regroup f.done z v (fields (end_of end slot) 0 (map blank rest)) f.after;
+  later = sym (regroup f.done z v r (f.after ++ kids)) ∙ ap (λ (xs : List ℕ). f.done ++ (xs ++ (f.after ++ kids))) (sym (fields_plain (length out - table)))
       ∙ ap (λ (xs : List ℕ). f.done ++ (fields end (length out - table) (slot ∷ rest) ++ (f.after ++ (xs ++ kids)))) (sym nothing) ∙ f.later;
-    place = length_done f.done table end slot v f.place (ap length (sym (same 0)) ∙ length-field (place_of end slot) 0 slot) }
+  place = length_done f.done table end slot v f.place (ap length (sym (same 0)) ∙ length-field (place_of end slot) 0 slot);
+}
   where
-  z : List ℕ
-  z = zeros (place_of end slot - end)
-  v : List ℕ
-  v = field_bytes (place_of end slot) 0 (blank slot)
-  r : List ℕ
-  r = fields (end_of end slot) (length out - table) rest
-  kids : List ℕ
-  kids = flat_map named rest
-  fields_plain : (n : ℕ) → fields end n (slot ∷ rest) ≡ z ++ (v ++ fields (end_of end slot) n rest)
-  fields_plain n =
-      let stays : n + length (named slot) ≡ n = omega (arith, ap length nothing) in
-      ap (λ (xs : List ℕ). z ++ (xs ++ fields (end_of end slot) (n + length (named slot)) rest)) (same n) ∙ ap (λ (k : ℕ). z ++ (v ++ fields (end_of end slot) k rest)) stays
+    z : List ℕ
+    z = zeros (place_of end slot - end)
+
+    v : List ℕ
+    v = field_bytes (place_of end slot) 0 (blank slot)
+
+    r : List ℕ
+    r = fields (end_of end slot) (length out - table) rest
+
+    kids : List ℕ
+    kids = flat_map named rest
+
+    fields_plain : (n : ℕ) → fields end n (slot ∷ rest) ≡ z ++ (v ++ fields (end_of end slot) n rest)
+    fields_plain n =
+        let stays : n + length (named slot) ≡ n = omega (arith, ap length nothing) in
+        ap (λ (xs : List ℕ). z ++ (xs ++ fields (end_of end slot) (n + length (named slot)) rest)) (same n) ∙ ap (λ (k : ℕ). z ++ (v ++ fields (end_of end slot) k rest)) stays
 
 -- ---- an object is added, and the offset to it filled in
 
 -- the bytes round the offset
 split : (d z four r a out : List ℕ) (place : ℕ) (o : ℕ) (b : List ℕ) → out ≡ d ++ ((z ++ (four ++ r)) ++ a) → length (d ++ z) ≡ place → length four ≡ 4
-  → with_offset out place o ++ b ≡ (d ++ (z ++ to_le_bytes w32 o)) ++ (r ++ (a ++ b))
+    → with_offset out place o ++ b ≡ (d ++ (z ++ to_le_bytes w32 o)) ++ (r ++ (a ++ b))
 split d z four r a out place o b now front size =
     ap (λ (xs : List ℕ). with_offset xs place o ++ b) (now ∙ regrouped) ∙ ap (λ (xs : List ℕ). xs ++ (to_le_bytes w32 o ++ drop (place + 4) ((d ++ z) ++ (four ++ (r ++ a)))) ++ b) (take_at (d ++ z) (four ++ (r ++ a)) place front)
     ∙ ap (λ (xs : List ℕ). (d ++ z) ++ (to_le_bytes w32 o ++ xs) ++ b) dropped ∙ simp append_assoc
   where
-  regrouped : d ++ ((z ++ (four ++ r)) ++ a) ≡ (d ++ z) ++ (four ++ (r ++ a))
-  regrouped = simp append_assoc
-  dropped : drop (place + 4) ((d ++ z) ++ (four ++ (r ++ a))) ≡ r ++ a
-  dropped = ap (drop (place + 4)) (sym (append_assoc (d ++ z) four (r ++ a))) ∙ drop_at ((d ++ z) ++ four) (r ++ a) (place + 4) (omega (arith, length-append (d ++ z) four))
+    regrouped : d ++ ((z ++ (four ++ r)) ++ a) ≡ (d ++ z) ++ (four ++ (r ++ a))
+    regrouped = simp append_assoc
+
+    dropped : drop (place + 4) ((d ++ z) ++ (four ++ (r ++ a))) ≡ r ++ a
+    dropped = ap (drop (place + 4)) (sym (append_assoc (d ++ z) four (r ++ a))) ∙ drop_at ((d ++ z) ++ four) (r ++ a) (place + 4) (omega (arith, length-append (d ++ z) four))
 
 length-with_offset : (out : List ℕ) (place o : ℕ) → place + 4 ≤ length out → length (with_offset out place o) ≡ length out
 length-with_offset out place o h = omega (arith, length-append (take place out) (to_le_bytes w32 o ++ drop (place + 4) out), length-take place out, length-drop (place + 4) out)
 
 -- the 4 bytes of an offset that is to be filled in are there
 pub offset_inside : (slot : FlatSlot Block) (rest : List (FlatSlot Block)) (final : List ℕ) (table end place : ℕ) (out : List ℕ) → place ≡ table + place_of end slot → size_of slot ≡ 4
-  → Filling (slot ∷ rest) final table end out → place + 4 ≤ length out
-offset_inside slot rest final table end place out at size f = omega (arith, f.place, at, size, ap length f.now,
-  length-append f.done (fields end 0 (map blank (slot ∷ rest)) ++ f.after), length-append (fields end 0 (map blank (slot ∷ rest))) f.after,
-  length-fields end 0 (map blank (slot ∷ rest)), table_size-blank end (slot ∷ rest), table_size_after (end_of end slot) rest)
+    → Filling (slot ∷ rest) final table end out → place + 4 ≤ length out
+offset_inside slot rest final table end place out at size f = omega (
+  arith,
+  f.place,
+  at,
+  size,
+  ap length f.now,
+  length-append f.done (fields end 0 (map blank (slot ∷ rest)) ++ f.after),
+  length-append (fields end 0 (map blank (slot ∷ rest))) f.after,
+  length-fields end 0 (map blank (slot ∷ rest)),
+  table_size-blank end (slot ∷ rest),
+  table_size_after (end_of end slot) rest,
+)
 
 pub object_step : (b : Block) (rest : List (FlatSlot Block)) (final : List ℕ) (table end place : ℕ) (out new : List ℕ) → place ≡ table + place_of end (Object b)
-  → Names out new b place → Filling (Object b ∷ rest) final table end out → Filling rest final table (end_of end (Object b)) new
+    → Names out new b place → Filling (Object b ∷ rest) final table end out → Filling rest final table (end_of end (Object b)) new
 object_step b rest final table end place out new at names f = record {
-    done = f.done ++ (z ++ to_le_bytes w32 o);
-    after = f.after ++ b.bytes;
-    now = names.bytes ∙ split f.done z (zeros 4) (fields (end_of end slot) 0 (map blank rest)) f.after out place o b.bytes f.now front refl;
-    later = sym (regroup f.done z (to_le_bytes w32 o) r ((f.after ++ b.bytes) ++ kids))
+  done = f.done ++ (z ++ to_le_bytes w32 o);
+  after = f.after ++ b.bytes;
+  now = names.bytes ∙ split f.done z (zeros 4) (fields (end_of end slot) 0 (map blank rest)) f.after out place o b.bytes f.now front refl;
+  later = sym (regroup f.done z (to_le_bytes w32 o) r ((f.after ++ b.bytes) ++ kids))
       ∙ ap (λ (xs : List ℕ). f.done ++ ((z ++ (to_le_bytes w32 o ++ r)) ++ xs)) (append_assoc f.after b.bytes kids)
       ∙ ap (λ (k : ℕ). f.done ++ ((z ++ (to_le_bytes w32 k ++ r)) ++ (f.after ++ (b.bytes ++ kids)))) offset
       ∙ ap (λ (k : ℕ). f.done ++ ((z ++ (to_le_bytes w32 (length out - table + b.entry - place_of end slot) ++ fields (end_of end slot) k rest)) ++ (f.after ++ (b.bytes ++ kids)))) next
       ∙ f.later;
-    place = length_done f.done table end slot (to_le_bytes w32 o) f.place refl }
+  place = length_done f.done table end slot (to_le_bytes w32 o) f.place refl;
+}
   where
-  slot : FlatSlot Block
-  slot = Object b
-  z : List ℕ
-  z = zeros (place_of end slot - end)
-  o : ℕ
-  o = length out + b.entry - place
-  front : length (f.done ++ z) ≡ place
-  front = let gap : length z ≡ place_of end slot - end = length-replicate _ _ in omega (arith, gap, at, f.place, end_after end slot, length-append f.done z)
-  r : List ℕ
-  r = fields (end_of end slot) (length new - table) rest
-  kids : List ℕ
-  kids = flat_map named rest
-  start : table ≤ length out
-  start = omega (arith, f.place, ap length f.now, length-append f.done (fields end 0 (map blank (slot ∷ rest)) ++ f.after))
-  offset : o ≡ length out - table + b.entry - place_of end slot
-  offset = omega (arith, start, at)
-  next : length new - table ≡ length out - table + length b.bytes
-  next = omega (arith, start, ap length names.bytes, length-append (with_offset out place o) b.bytes, length-with_offset out place o (offset_inside slot rest final table end place out at refl f))
+    slot : FlatSlot Block
+    slot = Object b
+
+    z : List ℕ
+    z = zeros (place_of end slot - end)
+
+    o : ℕ
+    o = length out + b.entry - place
+
+    front : length (f.done ++ z) ≡ place
+    front = let gap : length z ≡ place_of end slot - end = length-replicate _ _ in omega (arith, gap, at, f.place, end_after end slot, length-append f.done z)
+
+    r : List ℕ
+    r = fields (end_of end slot) (length new - table) rest
+
+    kids : List ℕ
+    kids = flat_map named rest
+
+    start : table ≤ length out
+    start = omega (arith, f.place, ap length f.now, length-append f.done (fields end 0 (map blank (slot ∷ rest)) ++ f.after))
+
+    offset : o ≡ length out - table + b.entry - place_of end slot
+    offset = omega (arith, start, at)
+
+    next : length new - table ≡ length out - table + length b.bytes
+    next = omega (arith, start, ap length names.bytes, length-append (with_offset out place o) b.bytes, length-with_offset out place o (offset_inside slot rest final table end place out at refl f))
 
 -- the object that comes next fits before the final end
 pub object_fits : (b : Block) (rest : List (FlatSlot Block)) (final : List ℕ) (table end : ℕ) (out : List ℕ) → Filling (Object b ∷ rest) final table end out → length out + length b.bytes ≤ length final
-object_fits b rest final table end out f = omega (arith, ap length f.now, ap length f.later,
-  length-append f.done (fields end 0 (map blank slots) ++ f.after), length-append (fields end 0 (map blank slots)) f.after,
-  length-append f.done (fields end (length out - table) slots ++ (f.after ++ flat_map named slots)), length-append (fields end (length out - table) slots) (f.after ++ flat_map named slots),
-  length-append f.after (flat_map named slots), length-append b.bytes (flat_map named rest),
-  length-fields end 0 (map blank slots), length-fields end (length out - table) slots, table_size-blank end slots)
+object_fits b rest final table end out f = omega (
+  arith,
+  ap length f.now,
+  ap length f.later,
+  length-append f.done (fields end 0 (map blank slots) ++ f.after),
+  length-append (fields end 0 (map blank slots)) f.after,
+  length-append f.done (fields end (length out - table) slots ++ (f.after ++ flat_map named slots)),
+  length-append (fields end (length out - table) slots) (f.after ++ flat_map named slots),
+  length-append f.after (flat_map named slots),
+  length-append b.bytes (flat_map named rest),
+  length-fields end 0 (map blank slots),
+  length-fields end (length out - table) slots,
+  table_size-blank end slots,
+)
   where
-  slots : List (FlatSlot Block)
-  slots = Object b ∷ rest
+    slots : List (FlatSlot Block)
+    slots = Object b ∷ rest
 
 -- ---- before anything is filled in
 
@@ -195,39 +234,45 @@ start_regroup base front v f z k = simp append_assoc
 
 -- a front, then 4 or 8 bytes, then fields, padded: base, front and head are done
 start : (base front head : List ℕ) (slots : List (FlatSlot Block)) (end : ℕ) → length head ≡ end
-  → Filling slots (base ++ (front ++ (padded (head ++ fields end (next_multiple_of (table_size end slots) 8) slots) ++ flat_map named slots))) (length base + length front) end
-      (base ++ (front ++ padded (head ++ fields end 0 (map blank slots))))
+    → Filling slots (base ++ (front ++ (padded (head ++ fields end (next_multiple_of (table_size end slots) 8) slots) ++ flat_map named slots))) (length base + length front) end
+    (base ++ (front ++ padded (head ++ fields end 0 (map blank slots))))
 start base front head slots end size = record {
-    done = base ++ (front ++ head);
-    after = gap (head ++ blanks);
-    now = simp append_assoc;
-    later = ap (λ (n : ℕ). (base ++ (front ++ head)) ++ (fields end n slots ++ (gap (head ++ blanks) ++ flat_map named slots))) next
+  done = base ++ (front ++ head);
+  after = gap (head ++ blanks);
+  now = simp append_assoc;
+  later = ap (λ (n : ℕ). (base ++ (front ++ head)) ++ (fields end n slots ++ (gap (head ++ blanks) ++ flat_map named slots))) next
       ∙ ap (λ (k : ℕ). (base ++ (front ++ head)) ++ (offsets ++ (zeros (next_multiple_of k 8 - k) ++ flat_map named slots))) same
       ∙ start_regroup base front head offsets (gap (head ++ offsets)) (flat_map named slots);
-    place = omega (arith, size, length-append base (front ++ head), length-append front head) }
+  place = omega (arith, size, length-append base (front ++ head), length-append front head);
+}
   where
-  blanks : List ℕ
-  blanks = fields end 0 (map blank slots)
-  offsets : List ℕ
-  offsets = fields end (next_multiple_of (table_size end slots) 8) slots
-  gap : List ℕ → List ℕ
-  gap xs = zeros (next_multiple_of (length xs) 8 - length xs)
-  blank_size : length (head ++ blanks) ≡ table_size end slots
-  blank_size = omega (arith, size, length-append head blanks, length-fields end 0 (map blank slots), table_size-blank end slots)
-  same : length (head ++ blanks) ≡ length (head ++ offsets)
-  same = omega (arith, size, blank_size, length-append head offsets, length-fields end (next_multiple_of (table_size end slots) 8) slots)
-  next : length (base ++ (front ++ padded (head ++ blanks))) - (length base + length front) ≡ next_multiple_of (table_size end slots) 8
-  next = omega (arith, blank_size, length-padded (head ++ blanks), length-append base (front ++ padded (head ++ blanks)), length-append front (padded (head ++ blanks)))
+    blanks : List ℕ
+    blanks = fields end 0 (map blank slots)
+
+    offsets : List ℕ
+    offsets = fields end (next_multiple_of (table_size end slots) 8) slots
+
+    gap : List ℕ → List ℕ
+    gap xs = zeros (next_multiple_of (length xs) 8 - length xs)
+
+    blank_size : length (head ++ blanks) ≡ table_size end slots
+    blank_size = omega (arith, size, length-append head blanks, length-fields end 0 (map blank slots), table_size-blank end slots)
+
+    same : length (head ++ blanks) ≡ length (head ++ offsets)
+    same = omega (arith, size, blank_size, length-append head offsets, length-fields end (next_multiple_of (table_size end slots) 8) slots)
+
+    next : length (base ++ (front ++ padded (head ++ blanks))) - (length base + length front) ≡ next_multiple_of (table_size end slots) 8
+    next = omega (arith, blank_size, length-padded (head ++ blanks), length-append base (front ++ padded (head ++ blanks)), length-append front (padded (head ++ blanks)))
 
 -- a table, when its own bytes are written
 pub start_table : (base : List ℕ) (slots : List (FlatSlot FlatObject)) (f : FlatObject → Block)
-  → Filling (map (slot_map f) slots) (base ++ (table_block (map (slot_map f) slots)).bytes) (length base + (table_block (map (slot_map f) slots)).entry) 4 (base ++ blank_table slots)
+    → Filling (map (slot_map f) slots) (base ++ (table_block (map (slot_map f) slots)).bytes) (length base + (table_block (map (slot_map f) slots)).entry) 4 (base ++ blank_table slots)
 unfolding table_block
 start_table base slots f = subst (λ (xs : List ℕ). Filling seen (base ++ (table_block seen).bytes) (length base + (table_block seen).entry) 4 (base ++ xs)) (blank_table-map f slots)
     (start base (vtable_bytes seen) (to_le_bytes w32 (length (vtable_bytes seen))) seen 4 refl)
   where
-  seen : List (FlatSlot Block)
-  seen = map (slot_map f) slots
+    seen : List (FlatSlot Block)
+    seen = map (slot_map f) slots
 
 -- a vector of tables, when its offsets are written as zeros
 pub start_tables : (base : List ℕ) (blocks : List Block) → Filling (map Object blocks) (base ++ (tables_block blocks).bytes) (length base) 8 (base ++ vector_bytes (length blocks) (zeros (4 * length blocks)))
@@ -238,5 +283,5 @@ start_tables base blocks =
     (subst (λ (n : ℕ). Filling slots (base ++ (vector_bytes (length blocks) (fields 8 (next_multiple_of (table_size 8 slots) 8) slots) ++ flat_map named slots)) n 8 (base ++ vector_bytes (length blocks) (fields 8 0 (map blank slots)))) (omega arith)
     (start base [] (zeros 4 ++ to_le_bytes w32 (length blocks)) slots 8 refl)))
   where
-  slots : List (FlatSlot Block)
-  slots = map Object blocks
+    slots : List (FlatSlot Block)
+    slots = map Object blocks

@@ -8,3 +8,5 @@ pub mod Standing
 pub mod Places
 pub mod TableFound
 pub mod ReadBack
+pub mod Checking
+pub mod Bounds

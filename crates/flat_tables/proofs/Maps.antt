@@ -6,8 +6,8 @@ use Rattle.std.specs.Int.{w16, w32, to_le_bytes, next_multiple_of}
 use Rattle.std.proofs.lemmas.List.{take-map}
 use Rattle.flat_tables.specs.declared.object.FlatSlot.{FlatSlot}
 use Rattle.flat_tables.specs.declared.object.FlatSlot.TheVariants.{Absent, U8, I16, I32, I64, Object}
-use Rattle.flat_tables.specs.Layout.{Block, zeros, padded, size_of, place_of, end_of, table_size, is_absent, used, entries, vtable_bytes, fields, blank, slot_map}
-use Rattle.flat_tables.specs.Building.{blank_table}
+use Rattle.flat_tables.specs.Layout.{Block, zeros, padded, size_of, place_of, end_of, table_size, is_absent, used, entries, vtable_bytes, fields, slot_map}
+use Rattle.flat_tables.specs.Building.{blank_table, blank}
 
 pub place_of-map : {O P : Type 0} (f : O → P) (end : ℕ) (slot : FlatSlot O) → place_of end (slot_map f slot) ≡ place_of end slot
 place_of-map f end Absent = refl
@@ -72,8 +72,8 @@ vtable-map f slots =
     ∙ ap (λ (n : ℕ). vtable n (table_size 4 slots) (entries 4 (take n (map (slot_map f) slots)))) (used-map f slots)
     ∙ ap (vtable (used slots) (table_size 4 slots)) (ap (entries 4) (take-map (slot_map f) (used slots) slots) ∙ entries-map f 4 (take (used slots) slots))
   where
-  vtable : ℕ → ℕ → List ℕ → List ℕ
-  vtable count size places = padded (to_le_bytes w16 (4 + 2 * count) ++ to_le_bytes w16 size ++ flat_map (to_le_bytes w16) places)
+    vtable : ℕ → ℕ → List ℕ → List ℕ
+    vtable count size places = padded (to_le_bytes w16 (4 + 2 * count) ++ to_le_bytes w16 size ++ flat_map (to_le_bytes w16) places)
 
 pub blank_table-map : {O P : Type 0} (f : O → P) (slots : List (FlatSlot O)) → blank_table (map (slot_map f) slots) ≡ blank_table slots
 blank_table-map f slots =

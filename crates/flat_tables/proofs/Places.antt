@@ -39,7 +39,7 @@ abbrev pub next_at : ℕ → List (FlatSlot Block) → ℕ → ℕ
 next_at next slots i = next + length (flat_map named (take i slots))
 
 pub field_there : (slots : List (FlatSlot Block)) (end next : ℕ) (b : List ℕ) (t i : ℕ) (s : FlatSlot Block) → Stands b (t + end) (fields end next slots) → slice_get slots i ≡ Some s
-  → Stands b (t + place_of (end_at end slots i) s) (field_bytes (place_of (end_at end slots i) s) (next_at next slots i) s)
+    → Stands b (t + place_of (end_at end slots i) s) (field_bytes (place_of (end_at end slots i) s) (next_at next slots i) s)
 field_there [] end next b t i s h e = no_item s i e
 field_there (y ∷ ys) end next b t zero s h e =
     let gap : length (zeros (place_of end y - end)) ≡ place_of end y - end = length-replicate _ _ in
@@ -49,13 +49,13 @@ field_there (y ∷ ys) end next b t zero s h e =
     (subst (λ (n : ℕ). Stands b (t + place_of end y) (field_bytes (place_of end y) n y)) stays
     (subst (λ (n : ℕ). Stands b n (field_bytes (place_of end y) next y)) place
     (first b _ (field_bytes (place_of end y) next y) (fields (end_of end y) (next + length (named y)) ys)
-      (second b (t + end) (zeros (place_of end y - end)) (field_bytes (place_of end y) next y ++ fields (end_of end y) (next + length (named y)) ys) h))))
+    (second b (t + end) (zeros (place_of end y - end)) (field_bytes (place_of end y) next y ++ fields (end_of end y) (next + length (named y)) ys) h))))
 field_there (y ∷ ys) end next b t (suc i) s h e =
     let gap : length (zeros (place_of end y - end)) ≡ place_of end y - end = length-replicate _ _ in
     let place : t + end + length (zeros (place_of end y - end)) + length (field_bytes (place_of end y) next y) ≡ t + end_of end y = omega (arith, gap, end_after end y, length-field (place_of end y) next y) in
     let rest : Stands b (t + end_of end y) (fields (end_of end y) (next + length (named y)) ys) = subst (λ (n : ℕ). Stands b n (fields (end_of end y) (next + length (named y)) ys)) place
-          (second b _ (field_bytes (place_of end y) next y) (fields (end_of end y) (next + length (named y)) ys)
-            (second b (t + end) (zeros (place_of end y - end)) (field_bytes (place_of end y) next y ++ fields (end_of end y) (next + length (named y)) ys) h)) in
+    (second b _ (field_bytes (place_of end y) next y) (fields (end_of end y) (next + length (named y)) ys)
+    (second b (t + end) (zeros (place_of end y - end)) (field_bytes (place_of end y) next y ++ fields (end_of end y) (next + length (named y)) ys) h)) in
     let more : next + length (named y) + length (flat_map named (take i ys)) ≡ next + length (named y ++ flat_map named (take i ys)) = omega (arith, length-append (named y) (flat_map named (take i ys))) in
     subst (λ (n : ℕ). Stands b (t + place_of (end_at (end_of end y) ys i) s) (field_bytes (place_of (end_at (end_of end y) ys i) s) n s)) more
     (field_there ys (end_of end y) (next + length (named y)) b t i s rest e)
@@ -102,11 +102,11 @@ pub absent_past : {O : Type 0} (slots : List (FlatSlot O)) (i : ℕ) (s : FlatSl
 absent_past [] i s h e = no_item s i e
 absent_past (y ∷ ys) zero s h e = subst (λ z. is_absent z ≡ true) (same_item y s e) (none (is_absent y) (used ys) h)
   where
-  none : (a : Bool) (n : ℕ) → cond (a && eqb n 0) 0 (n + 1) ≤ 0 → a ≡ true
-  none true n k = refl
-  none false n k = absurd (omega arith)
+    none : (a : Bool) (n : ℕ) → cond (a && eqb n 0) 0 (n + 1) ≤ 0 → a ≡ true
+    none true n k = refl
+    none false n k = absurd (omega arith)
 absent_past (y ∷ ys) (suc i) s h e = absent_past ys i s (fewer (is_absent y) (used ys) i h) e
   where
-  fewer : (a : Bool) (n m : ℕ) → cond (a && eqb n 0) 0 (n + 1) ≤ suc m → n ≤ m
-  fewer true n m k = grind arith
-  fewer false n m k = omega arith
+    fewer : (a : Bool) (n m : ℕ) → cond (a && eqb n 0) 0 (n + 1) ≤ suc m → n ≤ m
+    fewer true n m k = grind arith
+    fewer false n m k = omega arith

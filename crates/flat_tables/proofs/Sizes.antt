@@ -39,9 +39,9 @@ pub used_within : {O : Type 0} (slots : List (FlatSlot O)) → used slots ≤ le
 used_within [] = omega arith
 used_within (slot ∷ slots) = step (is_absent slot) (used slots) (length slots) (used_within slots)
   where
-  step : (absent : Bool) (n m : ℕ) → n ≤ m → cond (absent && eqb n 0) 0 (n + 1) ≤ suc m
-  step true n m h = grind arith
-  step false n m h = omega arith
+    step : (absent : Bool) (n m : ℕ) → n ≤ m → cond (absent && eqb n 0) 0 (n + 1) ≤ suc m
+    step true n m h = grind arith
+    step false n m h = omega arith
 
 pub length-entries : {O : Type 0} (end : ℕ) (slots : List (FlatSlot O)) → length (entries end slots) ≡ length slots
 length-entries end [] = refl
@@ -55,7 +55,7 @@ pub length-vtable : {O : Type 0} (slots : List (FlatSlot O)) → length (vtable_
 length-vtable slots =
     let listed : length (entries 4 (take (used slots) slots)) ≡ used slots = length-entries 4 (take (used slots) slots) ∙ length-take-le (used slots) slots (used_within slots) in
     let head : length (to_le_bytes w16 (4 + 2 * used slots) ++ to_le_bytes w16 (table_size 4 slots) ++ flat_map (to_le_bytes w16) (entries 4 (take (used slots) slots))) ≡ 4 + 2 * used slots
-          = omega (arith, length-u16s (entries 4 (take (used slots) slots))) in
+    = omega (arith, length-u16s (entries 4 (take (used slots) slots))) in
     length-padded (to_le_bytes w16 (4 + 2 * used slots) ++ to_le_bytes w16 (table_size 4 slots) ++ flat_map (to_le_bytes w16) (entries 4 (take (used slots) slots))) ∙ ap (λ (n : ℕ). next_multiple_of n 8) head
 
 -- ---- the place that an offset names lies in the object
@@ -68,6 +68,5 @@ pub tables_inside : (blocks : List Block) → (tables_block blocks).entry ≤ le
 unfolding tables_block
 tables_inside blocks = omega (arith, length-append (vector_bytes (length blocks) items) (flat_map named (map Object blocks)), length-vector (length blocks) items)
   where
-  items : List ℕ
-  items = fields 8 (next_multiple_of (8 + 4 * length blocks) 8) (map Object blocks)
-
+    items : List ℕ
+    items = fields 8 (next_multiple_of (8 + 4 * length blocks) 8) (map Object blocks)

@@ -23,7 +23,8 @@ second b at xs ys s = record {
   before = s.before ++ xs;
   after = s.after;
   is = s.is ∙ (let e : s.before ++ ((xs ++ ys) ++ s.after) ≡ (s.before ++ xs) ++ (ys ++ s.after) = simp append_assoc in e);
-  place = omega (arith, s.place, length-append s.before xs) }
+  place = omega (arith, s.place, length-append s.before xs);
+}
 
 pub within : (b : List ℕ) (at : ℕ) (xs : List ℕ) → Stands b at xs → at + length xs ≤ length b
 within b at xs s = omega (arith, s.place, ap length s.is, length-append s.before (xs ++ s.after), length-append xs s.after)
@@ -38,8 +39,8 @@ needed_there b at n xs size s =
     let w : at + n ≤ length b = omega (arith, within b at xs s, size) in
     inside b at n w ∙ ap (λ (ys : List ℕ). Ok ys) t
   where
-  inside : (b : List ℕ) (at n : ℕ) → at + n ≤ length b → needed b at n ≡ Ok (take n (drop at b))
-  inside b at n w = grind arith
+    inside : (b : List ℕ) (at n : ℕ) → at + n ≤ length b → needed b at n ≡ Ok (take n (drop at b))
+    inside b at n w = grind arith
 
 pub u8_there : (b : List ℕ) (at n : ℕ) → Stands b at (n ∷ []) → u8_at b at ≡ Ok n
 unfolding u8_at

@@ -1,8 +1,9 @@
 -- What each step of a builder does to the bytes so far.
-use Rattle.std.specs.Prelude.{◌≡◌, ℕ, ◌+◌, ◌-◌, ◌%◌, ◌^◌, ◌<◌, ◌≤◌, List, ◌++◌, length, take, drop, map}
+use Rattle.std.specs.Prelude.{◌≡◌, ℕ, pos, ◌+◌, ◌-◌, ◌%◌, ◌^◌, ◌<◌, ◌≤◌, List, ◌++◌, length, take, drop, map}
 use Rattle.std.specs.Int.{w32, to_le_bytes}
 use Rattle.flat_tables.specs.declared.object.FlatSlot.{FlatSlot}
-use Rattle.flat_tables.specs.Layout.{Block, padded, fields, blank, vtable_bytes}
+use Rattle.flat_tables.specs.declared.object.FlatSlot.TheVariants.{Absent, U8, I16, I32, I64, Object}
+use Rattle.flat_tables.specs.Layout.{Block, padded, fields, vtable_bytes}
 
 -- an object may come after the bytes so far
 pub record HasRoom (old : List ℕ) (block : Block) : Type 0 where
@@ -24,6 +25,15 @@ with_offset bytes place offset = take place bytes ++ (to_le_bytes w32 offset ++ 
 pub record Names (old new : List ℕ) (block : Block) (place : ℕ) : Type 0 where
   pub bytes : new ≡ with_offset old place (length old + block.entry - place) ++ block.bytes
   pub aligned : length new % 8 ≡ 0
+
+-- a slot whose object isn't written yet: its offset is 0
+abbrev pub blank : {O : Type 0} → FlatSlot O → FlatSlot Block
+blank Absent = Absent
+blank (U8 n) = U8 n
+blank (I16 z) = I16 z
+blank (I32 z) = I32 z
+blank (I64 z) = I64 z
+blank (Object o) = I32 (pos 0)
 
 -- a table of its own, before what it names is written
 abbrev pub blank_table : {O : Type 0} → List (FlatSlot O) → List ℕ

@@ -8,7 +8,7 @@ use Rattle.flat_tables.specs.declared.object.FlatObject.TheFolds.{every-FlatObje
 use Rattle.flat_tables.specs.declared.object.FlatPair.{FlatPair}
 use Rattle.flat_tables.specs.declared.object.FlatSlot.{FlatSlot}
 use Rattle.flat_tables.specs.declared.object.FlatSlot.TheVariants.{Absent, U8, I16, I32, I64, Object}
-use Rattle.flat_tables.specs.Layout.{IsBuildable, layout, pair_bytes}
+use Rattle.flat_tables.specs.Layout.{CanBePut, layout, pair_bytes}
 use Rattle.flat_tables.specs.Views.{TableView, VectorView}
 use Rattle.flat_tables.specs.Reading.{field_at, u8_field, i16_field, i32_field, i64_field, named_table, named_vector, named_text, item_bytes}
 
@@ -16,7 +16,7 @@ use Rattle.flat_tables.specs.Reading.{field_at, u8_field, i16_field, i32_field, 
 abbrev pub Finding : Type 1
 Finding = FlatObject → List ℕ → ℕ → Type 0
 
--- a slot that a table reads: absent, a number, or an object
+-- a slot that a table reads: absent, a number, or an object, to which the offset leads that stands at the field's place
 abbrev pub SlotReads : Finding → TableView → ℕ → FlatSlot FlatObject → Type 0
 SlotReads finds t slot Absent = field_at t.buffer t.place slot ≡ Ok None
 SlotReads finds t slot (U8 n) = u8_field t slot ≡ Ok (Some n)
@@ -61,15 +61,17 @@ NumberFits (I32 z) = FitsSigned w32 z
 NumberFits (I64 z) = FitsSigned w64 z
 NumberFits (Object o) = Unit {0}
 
+-- those of one object
 abbrev pub NumbersFit : FlatObject-F FlatObject → Type 0
 NumbersFit (Table slots) = All NumberFits slots
 NumbersFit (Tables tables) = Unit {0}
 NumbersFit (Pairs pairs) = Unit {0}
 NumbersFit (Text text) = Unit {0}
 
+-- and of all that it names
 unfoldable pub HasFittingNumbers : FlatObject → Type 0
 HasFittingNumbers = every-FlatObject NumbersFit
 
--- what is built is read back
+-- what is built is read back, to any depth
 abbrev pub ReadsBack : Type 0
-ReadsBack = (object : FlatObject) → IsBuildable object → HasFittingNumbers object → length (layout object) < 2 ^ 31 → (depth : ℕ) → FoundTo depth object (layout object) 0
+ReadsBack = (object : FlatObject) → CanBePut object → HasFittingNumbers object → (depth : ℕ) → FoundTo depth object (layout object) 0

@@ -1,6 +1,7 @@
--- The bytes that a builder writes. Distances alone occur in them, and every object begins at a multiple of 8 and is filled up to one, so
--- an object's bytes need no place of their own.
-use Rattle.std.specs.Prelude.{ℕ, ◌+◌, ◌*◌, ◌-◌, ◌≤◌, ℤ, pos, Bool, true, false, ◌&&◌, ◌==◌, if◌then◌else◌, List, [], ◌∷◌, ◌++◌, length, take, map, replicate, All}
+-- The bytes that a builder writes: tables, vtables, vectors and strings as in FlatBuffers internals ("Format components"), in one order and
+-- with one alignment. Distances alone occur in them, and every object begins at a multiple of 8 and is filled up to one, so an object's
+-- bytes need no place of their own. All numbers have their least byte first.
+use Rattle.std.specs.Prelude.{◌<◌, ◌^◌, ℕ, ◌+◌, ◌*◌, ◌-◌, ◌≤◌, ℤ, Bool, true, false, ◌&&◌, ◌==◌, if◌then◌else◌, List, [], ◌∷◌, ◌++◌, length, take, map, replicate, All}
 use Rattle.std.specs.List.{flat_map}
 use Rattle.std.specs.Int.{w16, w32, w64, to_le_bytes, cast_unsigned, next_multiple_of}
 use Rattle.flat_tables.specs.declared.object.FlatObject.{FlatObject}
@@ -27,7 +28,7 @@ pub record Block : Type 0 where
 unfoldable pub i64_bytes : ℤ → List ℕ
 i64_bytes z = to_le_bytes w64 (cast_unsigned w64 z)
 
--- ---- the fields of a table
+-- ---- the fields of a table ("Tables": a field stands at a place counted from its table)
 
 -- how many bytes a slot's field has
 abbrev pub size_of : {O : Type 0} → FlatSlot O → ℕ
@@ -79,17 +80,9 @@ fields end next [] = []
 fields end next (slot ∷ slots) =
     zeros (place_of end slot - end) ++ (field_bytes (place_of end slot) next slot ++ fields (end_of end slot) (next + length (named slot)) slots)
 
--- a slot whose object isn't written yet: its offset is 0
-abbrev pub blank : {O : Type 0} → FlatSlot O → FlatSlot Block
-blank Absent = Absent
-blank (U8 n) = U8 n
-blank (I16 z) = I16 z
-blank (I32 z) = I32 z
-blank (I64 z) = I64 z
-blank (Object o) = I32 (pos 0)
+-- ---- the vtable ("Tables": two sizes of 2 bytes, and an entry of 2 bytes for each slot)
 
--- ---- the vtable
-
+-- a slot without a field
 abbrev pub is_absent : {O : Type 0} → FlatSlot O → Bool
 is_absent Absent = true
 is_absent (U8 n) = false
@@ -113,7 +106,7 @@ abbrev pub vtable_bytes : {O : Type 0} → List (FlatSlot O) → List ℕ
 vtable_bytes slots =
     padded (to_le_bytes w16 (4 + 2 * used slots) ++ to_le_bytes w16 (table_size 4 slots) ++ flat_map (to_le_bytes w16) (entries 4 (take (used slots) slots)))
 
--- ---- objects
+-- ---- objects ("Offsets", "Strings and vectors": an offset of 4 bytes counts from its own place, to a table or a number of items)
 
 -- the slot, where what it names is seen by f
 abbrev pub slot_map : {O P : Type 0} → (O → P) → FlatSlot O → FlatSlot P
@@ -128,8 +121,9 @@ slot_map f (Object o) = Object (f o)
 unfoldable pub table_block : List (FlatSlot Block) → Block
 table_block slots = record {
   bytes = vtable_bytes slots
-    ++ (padded (to_le_bytes w32 (length (vtable_bytes slots)) ++ fields 4 (next_multiple_of (table_size 4 slots) 8) slots) ++ flat_map named slots);
-  entry = length (vtable_bytes slots) }
+      ++ (padded (to_le_bytes w32 (length (vtable_bytes slots)) ++ fields 4 (next_multiple_of (table_size 4 slots) 8) slots) ++ flat_map named slots);
+  entry = length (vtable_bytes slots);
+}
 
 -- a vector or a text: four zeros and the number of its items, at which an offset points; then the items
 abbrev pub vector_bytes : ℕ → List ℕ → List ℕ
@@ -139,8 +133,10 @@ vector_bytes count items = padded (zeros 4 ++ (to_le_bytes w32 count ++ items))
 unfoldable pub tables_block : List Block → Block
 tables_block blocks = record {
   bytes = vector_bytes (length blocks) (fields 8 (next_multiple_of (8 + 4 * length blocks) 8) (map Object blocks)) ++ flat_map named (map Object blocks);
-  entry = 4 }
+  entry = 4;
+}
 
+-- an item of a vector of pairs
 abbrev pub pair_bytes : FlatPair → List ℕ
 pair_bytes pair = i64_bytes pair.first ++ i64_bytes pair.second
 
@@ -151,6 +147,7 @@ pairs_block pairs = record { bytes = vector_bytes (length pairs) (flat_map pair_
 unfoldable pub text_block : List ℕ → Block
 text_block text = record { bytes = vector_bytes (length text) (text ++ 0 ∷ []); entry = 4 }
 
+-- an object, where each object in it is a block already
 abbrev pub block_step : FlatObject-F Block → Block
 block_step (Table slots) = table_block slots
 block_step (Tables blocks) = tables_block blocks
@@ -161,12 +158,13 @@ block_step (Text text) = text_block text
 unfoldable pub block : FlatObject → Block
 block = fold-FlatObject Block block_step
 
--- the whole buffer: the root offset and four zeros, then the object
+-- the whole buffer: the root offset, which counts from place 0, and four zeros; then the object
 abbrev pub layout : FlatObject → List ℕ
 layout object = to_le_bytes w32 (8 + (block object).entry) ++ (zeros 4 ++ (block object).bytes)
 
 -- ---- what can be built
 
+-- the object is a table
 abbrev pub IsTableLayer : FlatObject-F FlatObject → Type 0
 IsTableLayer (Table slots) = Unit {0}
 IsTableLayer (Tables tables) = ⊥
@@ -195,3 +193,9 @@ OnNamed P (I16 z) = Unit {0}
 OnNamed P (I32 z) = Unit {0}
 OnNamed P (I64 z) = Unit {0}
 OnNamed P (Object o) = P o
+
+-- what a builder takes: a table that can be built, in fewer than 2^31 bytes
+pub record CanBePut (object : FlatObject) : Type 0 where
+  pub table : IsTable object
+  pub parts : IsBuildable object
+  pub short : length (layout object) < 2 ^ 31

@@ -6,3 +6,4 @@ pub mod Layout
 pub mod Building
 pub mod Found
 pub mod ObjectLaws
+pub mod ObjectSizes

@@ -90,19 +90,21 @@ pub every_in_tables : (Q : FlatObject-F FlatObject → Type 0) (tables : List Fl
 unfolding tables_in
 every_in_tables Q tables h = All-from_recursion (every-FlatObject Q) tables (subst (AllByRecursion (every-FlatObject Q)) same (all_held Q (tables_in held.0)))
   where
-  held : (y : FlatObject-F (Held Q)) × (map-FlatObject (Held Q) FlatObject (λ e. e.0) y ≡ out-FlatObject (V.Tables tables))
-  held = every_held-FlatObject Q (V.Tables tables) h
-  same : map (λ e. e.0) (tables_in held.0) ≡ tables
-  same = sym (tables_in-map (λ e. e.0) held.0) ∙ ap tables_in (held.1 ∙ outs-Tables tables)
+    held : (y : FlatObject-F (Held Q)) × (map-FlatObject (Held Q) FlatObject (λ e. e.0) y ≡ out-FlatObject (V.Tables tables))
+    held = every_held-FlatObject Q (V.Tables tables) h
+
+    same : map (λ e. e.0) (tables_in held.0) ≡ tables
+    same = sym (tables_in-map (λ e. e.0) held.0) ∙ ap tables_in (held.1 ∙ outs-Tables tables)
 
 pub every_in_slots : (Q : FlatObject-F FlatObject → Type 0) (slots : List (FlatSlot FlatObject)) → every-FlatObject Q (V.Table slots) → All (OnNamed (every-FlatObject Q)) slots
 unfolding slots_in
 every_in_slots Q slots h = All-from_recursion (OnNamed (every-FlatObject Q)) slots (subst (AllByRecursion (OnNamed (every-FlatObject Q))) same (slots_held Q (slots_in held.0)))
   where
-  held : (y : FlatObject-F (Held Q)) × (map-FlatObject (Held Q) FlatObject (λ e. e.0) y ≡ out-FlatObject (V.Table slots))
-  held = every_held-FlatObject Q (V.Table slots) h
-  same : map (slot_map (λ e. e.0)) (slots_in held.0) ≡ slots
-  same = sym (slots_in-map (λ e. e.0) held.0) ∙ ap slots_in (held.1 ∙ outs-Table slots)
+    held : (y : FlatObject-F (Held Q)) × (map-FlatObject (Held Q) FlatObject (λ e. e.0) y ≡ out-FlatObject (V.Table slots))
+    held = every_held-FlatObject Q (V.Table slots) h
+
+    same : map (slot_map (λ e. e.0)) (slots_in held.0) ≡ slots
+    same = sym (slots_in-map (λ e. e.0) held.0) ∙ ap slots_in (held.1 ∙ outs-Table slots)
 
 -- ---- what can be built
 
@@ -113,6 +115,10 @@ slots_are_few slots h = subst Fits (outs-Table slots) (every_here-FlatObject Fit
 pub slots_are_buildable : (slots : List (FlatSlot FlatObject)) → IsBuildable (V.Table slots) → All (OnNamed IsBuildable) slots
 unfolding IsBuildable
 slots_are_buildable slots h = every_in_slots Fits slots h
+
+pub tables_are_tables : (tables : List FlatObject) → IsBuildable (V.Tables tables) → All IsTable tables
+unfolding IsBuildable
+tables_are_tables tables h = subst Fits (outs-Tables tables) (every_here-FlatObject Fits (V.Tables tables) h)
 
 pub tables_are_buildable : (tables : List FlatObject) → IsBuildable (V.Tables tables) → All IsBuildable tables
 unfolding IsBuildable
@@ -166,18 +172,20 @@ every_made_Table : (Q : FlatObject-F FlatObject → Type 0) (slots : List (FlatS
 unfolding slots_in
 every_made_Table Q slots q all = subst (every-FlatObject Q) (V.rolls-Table slots) (every_made-FlatObject Q (O.Table slots) (O.Table held) (ap (λ ss. O.Table ss) (slots_of-map (λ e. e.0) held ∙ attached_slots Q slots each)) q)
   where
-  each : AllByRecursion (OnNamed (every-FlatObject Q)) slots
-  each = recursion_from_All (OnNamed (every-FlatObject Q)) slots all
-  held : List (FlatSlot (Held Q))
-  held = attach_slots Q slots each
+    each : AllByRecursion (OnNamed (every-FlatObject Q)) slots
+    each = recursion_from_All (OnNamed (every-FlatObject Q)) slots all
+
+    held : List (FlatSlot (Held Q))
+    held = attach_slots Q slots each
 
 every_made_Tables : (Q : FlatObject-F FlatObject → Type 0) (tables : List FlatObject) → Q (O.Tables tables) → All (every-FlatObject Q) tables → every-FlatObject Q (V.Tables tables)
 every_made_Tables Q tables q all = subst (every-FlatObject Q) (V.rolls-Tables tables) (every_made-FlatObject Q (O.Tables tables) (O.Tables held) (ap (λ ts. O.Tables ts) (attached_tables Q tables each)) q)
   where
-  each : AllByRecursion (every-FlatObject Q) tables
-  each = recursion_from_All (every-FlatObject Q) tables all
-  held : List (Held Q)
-  held = attach_tables Q tables each
+    each : AllByRecursion (every-FlatObject Q) tables
+    each = recursion_from_All (every-FlatObject Q) tables all
+
+    held : List (Held Q)
+    held = attach_tables Q tables each
 
 every_made_Pairs : (Q : FlatObject-F FlatObject → Type 0) (pairs : List FlatPair) → Q (O.Pairs pairs) → every-FlatObject Q (V.Pairs pairs)
 every_made_Pairs Q pairs q = subst (every-FlatObject Q) (V.rolls-Pairs pairs) (every_made-FlatObject Q (O.Pairs pairs) (O.Pairs pairs) refl q)

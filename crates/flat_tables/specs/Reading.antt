@@ -1,4 +1,5 @@
--- What each look-up of a flatbuffer gives: what it finds, or the first place whose bytes lie outside the buffer.
+-- What each look-up of a flatbuffer gives (FlatBuffers internals, "Format components"): what it finds, or as its fault the place of the
+-- first number that the buffer doesn't hold.
 use Rattle.std.specs.Prelude.{◌≡◌, ℕ, ◌+◌, ◌*◌, ℤ, pos, negsuc, ◌-ℤ◌, List, length, take, drop, Option, None, Some, Result, Ok, Err, nat_le, nat_lt, ◌==◌, if◌then◌else◌, slice_index}
 use Rattle.std.specs.Int.{w16, w32, w64, from_le_bytes, cast_signed}
 use Rattle.flat_tables.specs.declared.fault.FlatFault.{FlatFault}
@@ -34,7 +35,7 @@ i32_at buffer place = needed buffer place 4 >>= λ bytes. Ok (cast_signed w32 (f
 unfoldable pub i64_at : List ℕ → ℕ → Result ℤ FlatFault
 i64_at buffer place = needed buffer place 8 >>= λ bytes. Ok (cast_signed w64 (from_le_bytes w64 bytes))
 
--- ---- tables
+-- ---- tables ("Tables")
 
 -- a place by counting from a table; one below 0 is the fault of the table's own place
 abbrev pub counted : ℕ → ℤ → Result ℕ FlatFault
@@ -60,6 +61,7 @@ entry_at buffer table slot vtable =
       offset ← u16_at buffer (vtable.0 + (4 + 2 * slot))
       Ok (if offset == 0 then None else Some (table + offset)))
 
+-- the same by the table's place alone
 unfoldable pub field_at : List ℕ → ℕ → ℕ → Result (Option ℕ) FlatFault
 field_at buffer table slot = vtable_at buffer table >>= entry_at buffer table slot
 
@@ -85,7 +87,7 @@ table_at buffer place = do
 unfoldable pub named_table : List ℕ → ℕ → Result TableView FlatFault
 named_table buffer place = target_at buffer place >>= table_at buffer
 
--- ---- vectors and texts
+-- ---- vectors and texts ("Strings and vectors")
 
 -- a vector of so many items from a place on, all of which the buffer has to hold
 unfoldable pub items_from : List ℕ → ℕ → ℕ → ℕ → Result VectorView FlatFault
@@ -140,12 +142,12 @@ vector_field t slot width = at_field (named_vector t.buffer width) (field_at t.b
 abbrev pub item_table : VectorView → ℕ → Result TableView FlatFault
 item_table v place = named_table v.buffer (v.start + place * 4)
 
-
 -- what a call returned, seen by `view`, is what the look-up gives
 abbrev pub Seen : {X Y : Type 0} → (X → Y) → Result X FlatFault → Result Y FlatFault → Type 0
 Seen view (Ok x) found = found ≡ Ok (view x)
 Seen view (Err e) found = found ≡ Err e
 
+-- the same of a field that may be absent
 abbrev pub SeenField : {X Y : Type 0} → (X → Y) → Result (Option X) FlatFault → Result (Option Y) FlatFault → Type 0
 SeenField view (Ok None) found = found ≡ Ok None
 SeenField view (Ok (Some x)) found = found ≡ Ok (Some (view x))

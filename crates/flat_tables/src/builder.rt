@@ -1,9 +1,7 @@
-ghost use Rattle.std.specs.Prelude.{◌≡◌, ◌%◌, ◌^◌, ◌<◌, None, Some, length, IsNone, IsSome, OnOk, OnErr, IfOk};
-ghost use Rattle.flat_tables.specs.Layout.{IsTable, IsBuildable, layout};
+ghost use Rattle.std.specs.Prelude.{◌≡◌, ◌%◌, None, Some, length, IsNone, IsSome, OnOk, OnErr, IfOk};
+ghost use Rattle.flat_tables.specs.Layout.{CanBePut, layout};
 
-use crate::bytes;
-use crate::objects;
-use crate::FlatObject;
+use crate::{FlatObject, bytes, objects};
 use cn_base::{Bytes, OutOfMemory};
 use std::alloc::Global;
 use std::marker::Model;
@@ -31,14 +29,11 @@ impl Builder {
         Builder { alloc, bytes: None }
     }
 
-    /// Puts a table, with all that it names, into the flatbuffer. It is the only one: none was put before. Each table in it has at most
-    /// 4,096 slots, each item of a vector of tables is a table, and the whole is shorter than 2^31 bytes. Its length
-    /// is a multiple of 8. Without memory for it nothing is put.
+    /// Puts a table, with all that it names, into the flatbuffer, whose length is then a multiple of 8. No object was put before, and the
+    /// object is one that a builder takes: `FlatObject::can_be_put` tells. Where there is no memory nothing is put.
     pub fn put(&mut self, object: &FlatObject) -> Result<(), OutOfMemory>
         requires first { IsNone self.old }
-        requires table { IsTable object.now }
-        requires buildable { IsBuildable object.now }
-        requires short { length (layout object.now) < 2 ^ 31 }
+        requires object { CanBePut object.now }
         ensures ok { OnOk result (self.new ≡ Some (layout object.now)) }
         ensures aligned { OnOk result (length (layout object.now) % 8 ≡ 0) }
         ensures err { OnErr result (self.new ≡ self.old) }
@@ -60,8 +55,7 @@ impl Builder {
 
 /// The whole buffer: the offset of the object's table, four zeros, and the object.
 fn write_layout(alloc: Global, object: &FlatObject) -> Result<Vec<u8>, OutOfMemory>
-    requires buildable { IsBuildable object.now }
-    requires short { length (layout object.now) < 2 ^ 31 }
+    requires { CanBePut object.now }
     ensures bytes { IfOk result (λ out. out.items ≡ layout object.now) }
     ensures aligned { OnOk result (length (layout object.now) % 8 ≡ 0) }
 {

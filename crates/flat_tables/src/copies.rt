@@ -10,8 +10,14 @@ fn copy_object(alloc: Global, object: &FlatObject) -> Result<FlatObject, OutOfMe
 {
     match object {
         FlatObject::Table(slots) => Ok(FlatObject::Table(copy_slots(alloc, slots.as_slice())?)),
-        FlatObject::Tables(tables) => Ok(FlatObject::Tables(copy_tables(alloc, tables.as_slice())?)),
-        FlatObject::Pairs(pairs) => Ok(FlatObject::Pairs(List::from_slice(alloc, pairs.as_slice())?)),
+        FlatObject::Tables(tables) => Ok(FlatObject::Tables(copy_tables(
+            alloc,
+            tables.as_slice(),
+        )?)),
+        FlatObject::Pairs(pairs) => Ok(FlatObject::Pairs(List::from_slice(
+            alloc,
+            pairs.as_slice(),
+        )?)),
         FlatObject::Text(text) => Ok(FlatObject::Text(text.copy(alloc)?)),
     }
 }

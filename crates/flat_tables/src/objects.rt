@@ -3,10 +3,7 @@ ghost use Rattle.std.specs.List.{All};
 ghost use Rattle.flat_tables.specs.Layout.{OnNamed, IsBuildable, block, slot_map, table_block, tables_block};
 ghost use Rattle.flat_tables.specs.Building.{HasRoom, Adds, Names};
 
-use crate::bytes;
-use crate::slots;
-use crate::vectors;
-use crate::{FlatObject, FlatSlot};
+use crate::{FlatObject, FlatSlot, bytes, slots, vectors};
 use cn_base::OutOfMemory;
 
 /// Adds an object with all that it names, and says at which place an offset to it points.
@@ -26,7 +23,11 @@ fn write_object(out: &mut Vec<u8>, object: &FlatObject) -> Result<usize, OutOfMe
 
 /// Adds an object, and writes the offset to it over the 4 bytes at `place`.
 #[cycle(objects)]
-pub(crate) fn write_named(out: &mut Vec<u8>, object: &FlatObject, place: usize) -> Result<(), OutOfMemory>
+pub(crate) fn write_named(
+    out: &mut Vec<u8>,
+    object: &FlatObject,
+    place: usize,
+) -> Result<(), OutOfMemory>
     requires room { HasRoom out.old.items (block object.now) }
     requires buildable { IsBuildable object.now }
     requires before { place + 4 ≤ length out.old.items }

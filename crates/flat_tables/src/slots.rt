@@ -1,11 +1,10 @@
 ghost use Rattle.std.specs.Prelude.{◌≡◌, ◌+◌, ◌-◌, ◌%◌, ◌*◌, ◌^◌, ◌<◌, ◌≤◌, ◌++◌, length, take, map, OnOk, IfOk};
 ghost use Rattle.std.specs.List.{flat_map};
-ghost use Rattle.std.specs.Int.{w16, to_le_bytes};
-ghost use Rattle.flat_tables.specs.Layout.{size_of, place_of, end_of, is_absent, table_size, used, entries, field_bytes, fields, blank, vtable_bytes, zeros};
-ghost use Rattle.flat_tables.specs.Building.{blank_table};
+ghost use Rattle.std.specs.Int.{w16, to_le_bytes, next_multiple_of};
+ghost use Rattle.flat_tables.specs.Layout.{size_of, place_of, end_of, is_absent, table_size, used, entries, field_bytes, fields, vtable_bytes, zeros};
+ghost use Rattle.flat_tables.specs.Building.{blank_table, blank};
 
-use crate::FlatSlot;
-use crate::bytes;
+use crate::{FlatSlot, bytes};
 use cn_base::OutOfMemory;
 
 /// How many bytes a slot's field has.
@@ -70,6 +69,15 @@ fn used(slots: &[FlatSlot]) -> usize
         }
     }
     count
+}
+
+/// How many bytes a table has with its vtable, without what it names.
+pub(crate) fn size_of_own(slots: &[FlatSlot]) -> usize
+    requires { length slots.now ≤ 4096 }
+    ensures size { result ≡ next_multiple_of (4 + 2 * used slots.now) 8 + next_multiple_of (table_size 4 slots.now) 8 }
+    ensures short { result < 2 ^ 18 }
+{
+    (4 + 2 * used(slots)).next_multiple_of(8) + table_size(slots).next_multiple_of(8)
 }
 
 /// Adds an entry of the vtable for each slot.

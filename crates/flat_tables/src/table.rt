@@ -1,12 +1,14 @@
-ghost use Rattle.std.specs.Prelude.{◌≡◌, ◌+◌, ◌^◌, ◌<◌, ◌≤◌, length, Ok, IsTrue, ◌↔◌, Some, ℕ};
+ghost use Rattle.std.specs.Prelude.{◌≡◌, ◌+◌, ◌^◌, ◌<◌, ◌≤◌, length, Ok, IsTrue, ◌↔◌, Some, ℕ, IfOk, IfSome};
 ghost use Rattle.flat_tables.specs.Fields.{FieldAt};
 ghost use Rattle.flat_tables.specs.Reading.{place_before, field_at, table_at, named_table, u8_field, i16_field, i32_field, i64_field, table_field, text_field, vector_field, SeenField};
 
-use crate::numbers;
-use crate::{FlatFault, Vector};
+use crate::{FlatFault, Vector, numbers};
 use std::marker::Model;
 
-/// A table of a flatbuffer, whose vtable's size was read.
+/// A table of a flatbuffer (FlatBuffers internals, "Tables"), whose i32 and whose vtable's size lie in the buffer.
+///
+/// Slots are counted from 0. A slot is absent where its entry in the vtable is 0 or not wholly in it. A look-up takes no memory, reads a
+/// bounded number of bytes, and answers `OutOfRange` exactly where a byte that it needs lies outside the buffer.
 #[derive(Debug, Drop)]
 pub struct Table<'a> {
     buffer: &'a [u8],
@@ -43,7 +45,7 @@ fn place_before(table: usize, back: i32) -> Result<usize, FlatFault>
 }
 
 impl<'a> Table<'a> {
-    /// The table that the buffer's root offset names.
+    /// The table that the buffer's root offset names. It needs the offset, the table's i32 and its vtable's size.
     pub fn root(buffer: &'a [u8]) -> Result<Table<'a>, FlatFault>
         ensures { result ≡ named_table buffer.now 0 }
     {
@@ -92,7 +94,7 @@ impl<'a> Table<'a> {
         })
     }
 
-    /// Whether the slot's field is there. It needs no byte of the field. It is also false where the slot's entry lies outside the buffer.
+    /// Whether the slot's field is there, of which it needs no byte. Where the slot's entry lies outside the buffer it isn't.
     pub fn has(&self, slot: u16) -> bool
         ensures { IsTrue result ↔ ((place : ℕ) × FieldAt self.now.buffer self.now.place slot (Some place)) }
     {
@@ -102,7 +104,7 @@ impl<'a> Table<'a> {
         }
     }
 
-    /// The byte of the slot, or none where it is absent.
+    /// The slot's unsigned number of 1 byte, or none where it is absent.
     pub fn u8_at(&self, slot: u16) -> Result<Option<u8>, FlatFault>
         ensures { result ≡ u8_field self.now slot }
     {
@@ -112,7 +114,7 @@ impl<'a> Table<'a> {
         }
     }
 
-    /// The number of 2 bytes of the slot, or none where it is absent.
+    /// The slot's signed number of 2 bytes, or none where it is absent.
     pub fn i16_at(&self, slot: u16) -> Result<Option<i16>, FlatFault>
         ensures { result ≡ i16_field self.now slot }
     {
@@ -122,7 +124,7 @@ impl<'a> Table<'a> {
         }
     }
 
-    /// The number of 4 bytes of the slot, or none where it is absent.
+    /// The slot's signed number of 4 bytes, or none where it is absent.
     pub fn i32_at(&self, slot: u16) -> Result<Option<i32>, FlatFault>
         ensures { result ≡ i32_field self.now slot }
     {
@@ -132,7 +134,7 @@ impl<'a> Table<'a> {
         }
     }
 
-    /// The number of 8 bytes of the slot, or none where it is absent.
+    /// The slot's signed number of 8 bytes, or none where it is absent.
     pub fn i64_at(&self, slot: u16) -> Result<Option<i64>, FlatFault>
         ensures { result ≡ i64_field self.now slot }
     {
@@ -142,7 +144,7 @@ impl<'a> Table<'a> {
         }
     }
 
-    /// The table that the slot names, or none where it is absent.
+    /// The table that the slot's offset names, or none where it is absent. It needs the offset, the table's i32 and its vtable's size.
     pub fn table_at(&self, slot: u16) -> Result<Option<Table<'a>>, FlatFault>
         ensures { result ≡ table_field self.now slot }
     {
@@ -152,7 +154,8 @@ impl<'a> Table<'a> {
         }
     }
 
-    /// The bytes of the text that the slot names, or none where it is absent.
+    /// The bytes of the text that the slot's offset names, or none where it is absent. It needs the offset, the text's length and its bytes,
+    /// and not the zero byte behind them. Whether they are UTF-8 isn't looked at.
     pub fn text_at(&self, slot: u16) -> Result<Option<&'a [u8]>, FlatFault>
         ensures { SeenField (λ text. text.now) result (text_field self.now slot) }
     {
@@ -162,9 +165,11 @@ impl<'a> Table<'a> {
         }
     }
 
-    /// The vector that the slot names, with items of `width` bytes each, or none where it is absent.
+    /// The vector that the slot's offset names, with items of `width` bytes each, or none where it is absent. It needs the offset, the
+    /// vector's length and all its items.
     pub fn vector_at(&self, slot: u16, width: usize) -> Result<Option<Vector<'a>>, FlatFault>
-        ensures { result ≡ vector_field self.now slot width }
+        ensures found { result ≡ vector_field self.now slot width }
+        ensures width { IfOk result (λ found. IfSome found (λ v. v.width ≡ width)) }
     {
         match self.field(slot)? {
             None => Ok(None),

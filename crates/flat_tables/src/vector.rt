@@ -1,11 +1,10 @@
-ghost use Rattle.std.specs.Prelude.{◌≡◌, ◌+◌, ◌*◌, ◌^◌, ◌<◌, ◌≤◌, length, IsTrue, ◌↔◌};
+ghost use Rattle.std.specs.Prelude.{◌≡◌, ◌+◌, ◌*◌, ◌^◌, ◌<◌, ◌≤◌, length, IsTrue, ◌↔◌, IfOk};
 ghost use Rattle.flat_tables.specs.Reading.{items_from, items_bytes, item_bytes, named_vector, named_text, item_table, Seen};
 
-use crate::numbers;
-use crate::{FlatFault, Table};
+use crate::{FlatFault, Table, numbers};
 use std::marker::Model;
 
-/// A vector of a flatbuffer, all of whose items lie in the buffer.
+/// A vector of a flatbuffer (FlatBuffers internals, "Strings and vectors"), all of whose items lie in the buffer. Its calls take no memory.
 #[derive(Debug, Drop)]
 pub struct Vector<'a> {
     buffer: &'a [u8],
@@ -28,8 +27,13 @@ impl<'a> Model for Vector<'a> {
 impl<'a> Vector<'a> {
     /// The vector that the offset at `place` names.
     #[tactic(auto, unfolding(crate::specs::Reading::named_vector))]
-    pub(crate) fn named(buffer: &'a [u8], place: usize, width: usize) -> Result<Vector<'a>, FlatFault>
-        ensures { result ≡ named_vector buffer.now width place }
+    pub(crate) fn named(
+        buffer: &'a [u8],
+        place: usize,
+        width: usize,
+    ) -> Result<Vector<'a>, FlatFault>
+        ensures vector { result ≡ named_vector buffer.now width place }
+        ensures width { IfOk result (λ v. v.width ≡ width) }
     {
         let vector = numbers::target_at(buffer, place)?;
         let count = numbers::u32_at(buffer, vector)?;
@@ -38,9 +42,15 @@ impl<'a> Vector<'a> {
 
     /// `count` items of `width` bytes each from `start` on.
     #[tactic(auto, unfolding(crate::specs::Reading::items_from))]
-    fn from_start(buffer: &'a [u8], start: usize, count: usize, width: usize) -> Result<Vector<'a>, FlatFault>
+    fn from_start(
+        buffer: &'a [u8],
+        start: usize,
+        count: usize,
+        width: usize,
+    ) -> Result<Vector<'a>, FlatFault>
         requires { start ≤ length buffer.now }
-        ensures { result ≡ items_from buffer.now start count width }
+        ensures vector { result ≡ items_from buffer.now start count width }
+        ensures width { IfOk result (λ v. v.width ≡ width) }
     {
         match count.checked_mul(width) {
             Some(size) if size <= buffer.len() - start => Ok(Vector {
@@ -83,7 +93,7 @@ impl<'a> Vector<'a> {
         self.count == 0
     }
 
-    /// The bytes of the item at `place`.
+    /// The bytes of the item at `place`, counted from 0.
     pub fn item(&self, place: usize) -> &'a [u8]
         requires { place < self.now.count }
         ensures bytes { result.now ≡ item_bytes self.now place }
@@ -93,7 +103,8 @@ impl<'a> Vector<'a> {
         &self.buffer[start..start + self.width]
     }
 
-    /// The table that the item at `place` names. The vector's items have to be offsets, of 4 bytes each.
+    /// The table that the item at `place` names. The vector's items have to be offsets, of 4 bytes each. `OutOfRange` exactly where a byte
+    /// of the table's i32 or of its vtable's size lies outside the buffer.
     pub fn table(&self, place: usize) -> Result<Table<'a>, FlatFault>
         requires within { place < self.now.count }
         requires offsets { self.now.width ≡ 4 }

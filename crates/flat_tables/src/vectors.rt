@@ -4,8 +4,7 @@ ghost use Rattle.std.specs.Int.{w32, to_le_bytes};
 ghost use Rattle.flat_tables.specs.Layout.{zeros, pair_bytes, vector_bytes, pairs_block, text_block};
 ghost use Rattle.flat_tables.specs.Building.{HasRoom, Adds};
 
-use crate::FlatPair;
-use crate::bytes;
+use crate::{FlatPair, bytes};
 use cn_base::OutOfMemory;
 
 /// Adds the head of a vector of `count` items: four zeros, and the count.

@@ -1,5 +1,6 @@
 use Rattle.std.proofs.Common.{◌≡◌, ◌+◌, ◌*◌, ◌≤◌, ◌++◌, drop, map}
-use Rattle.flat_tables.specs.Layout.{fields, blank}
+use Rattle.flat_tables.specs.Layout.{fields}
+use Rattle.flat_tables.specs.Building.{blank}
 use Rattle.flat_tables.proofs.slots.write_fields.Given as goal
 
 -- the fields so far and those of the slots that are left are all fields
