@@ -1,20 +1,18 @@
 -- A day's year, month and place in the month are those of the calendar.
-use Rattle.std.proofs.Common.{◌≡◌, List, [], ◌∷◌, ◌++◌, ℕ, zero, suc, ◌+◌, ◌-◌, ◌<◌, ◌≤◌, ℤ, pos, negsuc, neg_ℤ, ◌+ℤ◌, ◌-ℤ◌, ◌<ℤ◌, ◌≤ℤ◌, ◌⊎◌, inl, inr, Bool, true, false, cond, refl, sym, ap, subst, ◌∙◌, arith}
+use Rattle.std.proofs.Common.{◌≡◌, [], ◌∷◌, ◌++◌, ℕ, zero, suc, ◌+◌, ◌<◌, ◌≤◌, ℤ, pos, negsuc, ◌+ℤ◌, ◌-ℤ◌, ◌<ℤ◌, ◌≤ℤ◌, ◌⊎◌, inl, inr, Bool, true, false, cond, refl, sym, subst, arith}
 use Rattle.std.specs.Prelude.{int_lt, unsigned_abs}
-use Rattle.std.specs.Int.{IsInRange}
 use Rattle.std.proofs.Common.{rules}
 use Rattle.std.proofs.lemmas.Bool.{cases_order}
-use Rattle.jiff_core.specs.Calendar.{day_count, days_from_civil, days_in_month, days_in_year, IsCivilDate, IsYear}
+use Rattle.jiff_core.specs.Calendar.{days_from_civil, days_in_month}
 use Rattle.jiff_core.proofs.SignedLemmas.{signed_arith}
 use Rattle.jiff_core.proofs.MarchLemmas.{day_count-early}
 use Rattle.jiff_core.proofs.CalendarLemmas.{days_from_civil-day_count, day_count-next_month, day_count-next_year, day_count-last_of_year, day_count-day, day_count-end}
-use borrow.Author.Differences.{up, down}
 use Rattle.jiff_core.specs.declared.civil.date.Date.{Date}
 use Rattle.jiff_core.specs.Date.{epoch_day}
 use Rattle.jiff_core.proofs.DateLemmas.{epoch_day_injective}
 use Rattle.jiff_fmt.specs.Text as jiff
 use Rattle.cn_types.specs.Fit.{IsDay}
-use Rattle.cn_types.specs.Dates.{last_start, year_of, month_of, month_day_of, date_text, IsDateOf, DatesAreOfTheCalendar}
+use Rattle.cn_types.specs.Dates.{last_start, year_of, month_of, month_day_of, date_text, DatesAreOfTheCalendar}
 
 -- the number found starts no later than the day, and the next one later
 record IsLastStart (start : ℕ → ℤ) (n : ℕ) (day : ℤ) (found : ℕ) : Type 0 where

@@ -5,4 +5,5 @@ pub mod LineFacts
 pub mod Lines
 pub mod OrderFacts
 pub mod PrintedFacts
+pub mod StructFacts
 pub mod Unescapes

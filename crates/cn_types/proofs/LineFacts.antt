@@ -1,5 +1,5 @@
 -- The lines of two rows of the same types differ where the rows do.
-use Rattle.std.proofs.Common.{◌≡◌, ◌≢◌, ℕ, zero, suc, ◌+◌, ◌/◌, ◌%◌, ◌^◌, ◌<◌, ◌≤◌, ℤ, pos, negsuc, Bool, List, [], ◌∷◌, ◌++◌, true, false, cond, eqb, length, get_or, map, refl, sym, ap, subst, ◌∙◌, ◌⊎◌, inl, inr, arith, rules, append_assoc}
+use Rattle.std.proofs.Common.{◌≡◌, ◌≢◌, ℕ, suc, ◌+◌, ◌/◌, ◌%◌, ◌^◌, ◌<◌, ◌≤◌, ℤ, pos, negsuc, Bool, List, [], ◌∷◌, ◌++◌, true, false, cond, eqb, length, get_or, map, refl, sym, ap, subst, ◌∙◌, ◌⊎◌, inl, inr, arith, rules, append_assoc}
 use Rattle.std.specs.Prelude.{All}
 use Rattle.std.specs.List.{join_with_byte}
 use Rattle.std.specs.Fmt.{decimal, signed_decimal}
@@ -11,11 +11,11 @@ use lib.Signed.{mag}
 use Rattle.cn_types.specs.declared.value.DataType.{DataType}
 use Rattle.cn_types.specs.declared.value.Value.{Value}
 use Rattle.cn_types.specs.declared.row.Row.{Row}
-use Rattle.cn_types.specs.Fit.{IsDay, HasType, HaveTypes, FitsTypes}
+use Rattle.cn_types.specs.Fit.{HaveTypes, FitsTypes}
 use Rattle.jiff_fmt.specs.Text.{pad2, pad4}
 use Rattle.cn_types.specs.Dates.{date_text, year_of, month_of, month_day_of}
 use Rattle.cn_types.specs.Printed.{printed, escaped, escaped_byte, boolean_text, line_of, row_line}
-use Rattle.cn_types.specs.Spelled.{HasBits, IsInteger, IsLong}
+use Rattle.cn_types.specs.Spelled.{HasBits}
 use Rattle.cn_types.specs.PrintedLaws.{LinesTellRowsApart}
 use Rattle.cn_types.proofs.PrintedFacts.{printed_injective, mag_small, wider}
 

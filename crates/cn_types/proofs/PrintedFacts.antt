@@ -1,8 +1,7 @@
 -- The values of one type are printed differently.
-use Rattle.std.proofs.Common.{◌≡◌, ◌≢◌, ℕ, suc, ◌+◌, ◌-◌, ◌^◌, ◌<◌, ◌≤◌, ℤ, pos, negsuc, ◌≤ℤ◌, Bool, List, [], ◌∷◌, ◌++◌, true, false, length, get_or, refl, sym, ap, subst, ◌∙◌, ◌⊎◌, inl, inr, arith}
+use Rattle.std.proofs.Common.{◌≡◌, ◌≢◌, ℕ, suc, ◌^◌, ◌<◌, ℤ, pos, negsuc, ◌≤ℤ◌, Bool, List, [], ◌∷◌, true, false, get_or, refl, sym, ap, subst, ◌∙◌, ◌⊎◌, inl, inr, arith}
 use Rattle.std.specs.Prelude.{Result, Ok, Err}
 use Rattle.std.specs.Fmt.{decimal, signed_decimal}
-use Rattle.std.specs.Int.{IsInRange}
 use Rattle.std.proofs.lemmas.Int.{ints}
 use Rattle.std.proofs.lemmas.Fmt.{decimal_is_IsNumeral, signed_decimal_injective, decimal_nonempty}
 use Rattle.std.proofs.lemmas.Str.Parse.{digit_at}
@@ -24,9 +23,9 @@ use Rattle.cn_types.specs.declared.value.DataType.{DataType}
 use Rattle.cn_types.specs.declared.value.Value.{Value}
 use Rattle.cn_types.specs.Fit.{IsDay, HasType}
 use Rattle.cn_types.specs.Dates.{date_text}
-use Rattle.cn_types.specs.Printed.{printed, escaped, boolean_text}
+use Rattle.cn_types.specs.Printed.{printed, boolean_text}
 use Rattle.cn_types.specs.Spelled.{IsInteger, IsLong, HasBits, Spells, OneValueIsSpelled}
-use Rattle.cn_types.proofs.DateFacts.{civil_date, CivilDateOf, date_text-date}
+use Rattle.cn_types.proofs.DateFacts.{civil_date, date_text-date}
 use Rattle.cn_types.proofs.Unescapes.{escaped_injective, not_escaped}
 
 -- the bytes of null

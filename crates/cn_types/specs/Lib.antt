@@ -2,6 +2,7 @@
 pub mod Dates
 pub mod Fit
 pub mod Json
+pub mod JsonLaws
 pub mod Order
 pub mod OrderLaws
 pub mod Printed

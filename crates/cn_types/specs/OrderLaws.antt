@@ -4,7 +4,7 @@ use Rattle.std.specs.declared.cmp.Ordering.TheVariants.{Equal}
 use Rattle.std.specs.Cmp.{IsTotalOrder}
 use Rattle.cn_types.specs.declared.value.Value.{Value}
 use Rattle.cn_types.specs.declared.row.Row.{Row}
-use Rattle.cn_types.specs.Order.{value_cmp, value_eq, row_cmp, row_eq}
+use Rattle.cn_types.specs.Order.{value_cmp, row_cmp, row_eq}
 
 -- the order of values is total
 abbrev pub ValuesAreOrdered : Type 0

@@ -2,6 +2,7 @@ ghost use Rattle.std.specs.Prelude.{◌≡◌, ◌≢◌, ◌↔◌, map, IfOk, 
 ghost use Rattle.std.specs.List.{list_all};
 ghost use Rattle.serde_json.specs.View.{view};
 ghost use Rattle.serde_json.specs.Errors.{IsMemory};
+ghost use Rattle.cn_types.specs.JsonLaws.{NoStructIsRefused};
 ghost use Rattle.cn_types.specs.Json.{text_at as said_at, kind_named as named_kind, kind_of as said_kind, nullable_of as said_nullable, is_field as says_field, column_of, struct_fields as said_fields, schema_of as said_schema, items_at as items_under};
 
 use crate::{DataType, Field, Schema, SchemaFault};
@@ -125,3 +126,9 @@ fn text_at<'v>(value: &'v Value, key: &str) -> Option<&'v str>
 {
     value.get(key)?.as_str()
 }
+
+/// Law: a JSON value is refused as no struct exactly where it is no object with `"type":"struct"` and a list `fields` of objects with a
+/// text `name`, whose `nullable`, where it is there, is a truth value.
+pub fn no_struct_is_refused()
+    ensures { NoStructIsRefused }
+{}

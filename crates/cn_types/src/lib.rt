@@ -17,6 +17,7 @@ mod value;
 
 pub use dates::dates_are_of_the_calendar;
 pub use fault::{SchemaFault, ValueFault};
+pub use json::no_struct_is_refused;
 pub use ordering::{
     equal_rows_are_the_same, equal_values_are_the_same, order, rows_are_ordered, values_are_ordered,
 };

@@ -64,11 +64,11 @@ fn long_of_text(alloc: Global, text: &str) -> Result<i64, ValueFault>
     ensures ok { IfOk result (λ n. signed_decimal n ≡ text.now) }
     ensures bad { result ≡ Err ValueFault.BadValue → (n : ℤ) → IsLong n → signed_decimal n ≢ text.now }
 {
-    let Ok(number) = text.parse::<i64>() else {
+    let Ok(long) = text.parse::<i64>() else {
         return Err(ValueFault::BadValue);
     };
-    if number.to_string(alloc)?.as_str() == text {
-        Ok(number)
+    if long.to_string(alloc)?.as_str() == text {
+        Ok(long)
     } else {
         Err(ValueFault::BadValue)
     }

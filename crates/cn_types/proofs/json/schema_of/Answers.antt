@@ -1,5 +1,5 @@
-use Rattle.std.proofs.Common.{◌≡◌, sym, ap, ◌∙◌}
-use Rattle.std.specs.Prelude.{Result, Ok, Err, List}
+use Rattle.std.proofs.Common.{sym, ap, ◌∙◌}
+use Rattle.std.specs.Prelude.{Result, Ok, List}
 use Rattle.serde_json.specs.View.{view}
 use Rattle.cn_types.specs.declared.schema.Field.{Field}
 use Rattle.cn_types.specs.declared.schema.Schema.{Schema}

@@ -1,4 +1,4 @@
-use Rattle.std.proofs.Common.{◌≡◌, ◌≤ℤ◌, ℤ, pos, negsuc, rules, arith, ap, ◌∙◌}
+use Rattle.std.proofs.Common.{◌≡◌, rules, arith, ap, ◌∙◌}
 use Rattle.std.proofs.lemmas.Int.{ints}
 use mir.Syntax.{w32}
 use mir.Val.{to_z, of_z}

@@ -7,4 +7,4 @@ returns-in_default-clause-bad c = λ bad n range e. c.in_default.not-Ok n (parse
 
 pub returns-else-eq-clause-bad : goal.returns-else-eq-clause-bad
 returns-else-eq-clause-bad c =
-    λ bad n range e. not_printed c.in-Ok.number n c.as_str.result.now _ c.parse.result c.in-Ok.is (parsed_long n _ c.parse.result range e c.parse.ensures.value.0) (search rules) c.if-eq.ensures e
+    λ bad n range e. not_printed c.in-Ok.long n c.as_str.result.now _ c.parse.result c.in-Ok.is (parsed_long n _ c.parse.result range e c.parse.ensures.value.0) (search rules) c.if-eq.ensures e

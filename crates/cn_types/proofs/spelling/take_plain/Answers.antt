@@ -1,4 +1,4 @@
-use Rattle.std.proofs.Common.{◌≡◌, ◌≢◌, List, [], ◌++◌, ℕ, refl, ap, ◌∙◌, arith, append-nil}
+use Rattle.std.proofs.Common.{◌≢◌, List, ◌++◌, ℕ, refl, ap, ◌∙◌, arith, append-nil}
 use Rattle.std.specs.String.{string_bytes}
 use lib.Utf8.{encode}
 use Rattle.cn_types.specs.Printed.{escaped}
