@@ -1,0 +1,14 @@
+//! Arrow IPC streams (Arrow Columnar Format, "Serialization and Interprocess Communication (IPC)") of rows with columns of five types.
+#![tactic(auto)]
+
+mod batch;
+mod bitmap;
+mod columns;
+mod fit;
+mod messages;
+#[cfg(test)]
+mod tests;
+mod write;
+
+pub use fit::can_be_written;
+pub use write::write_stream;
