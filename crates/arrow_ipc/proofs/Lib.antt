@@ -3,3 +3,6 @@ pub mod Buffers
 pub mod Sizes
 pub mod ColumnSteps
 pub mod Streams
+pub mod Standing
+pub mod FoundMessages
+pub mod WrittenSchema

@@ -1,7 +1,7 @@
 -- What a stream holds (Arrow Columnar Format, "IPC Streaming Format", "Encapsulated message format", "Physical Memory Layout"; Message.fbs
 -- and Schema.fbs), one cell at a time.
-use Rattle.std.specs.Prelude.{◌≡◌, ◌≢◌, ◌↔◌, ◌⊎◌, ℕ, ◌+◌, ◌-◌, ◌*◌, ◌/◌, ◌%◌, ◌^◌, ◌<◌, ◌≤◌, ℤ, pos, List, [], ◌∷◌, ◌++◌, length, take, drop, slice_index, slice_get, Option, None, Some, Result, Ok, Err, All, IsTrue, IsUtf8, FitsSigned}
-use Rattle.std.specs.Int.{w32, w64, bit_at}
+use Rattle.std.specs.Prelude.{◌≡◌, ◌≢◌, ◌↔◌, ◌⊎◌, ℕ, ◌+◌, ◌-◌, ◌*◌, ◌/◌, ◌%◌, ◌^◌, ◌<◌, ◌≤◌, ℤ, pos, List, [], ◌∷◌, ◌++◌, length, take, drop, slice_index, slice_get, Option, None, Some, Result, Ok, Err, All, IsTrue, IsUtf8}
+use Rattle.std.specs.Int.{bit_at}
 use Rattle.cn_types.specs.Fit.{IsDay}
 use Rattle.cn_types.specs.declared.value.Value.{Value}
 use Rattle.cn_types.specs.declared.value.Value.TheVariants as V
@@ -13,8 +13,9 @@ use Rattle.cn_types.specs.declared.schema.Schema.{Schema}
 use Rattle.flat_tables.specs.declared.fault.FlatFault.{FlatFault}
 use Rattle.flat_tables.specs.Views.{TableView, VectorView}
 use Rattle.flat_tables.specs.Reading.{i32_at, i64_at, field_at, named_table, u8_field, i16_field, i32_field, i64_field, table_field, text_field, vector_field, item_bytes, item_table}
-use Rattle.arrow_ipc.specs.Columns.{cells, null_count, body_of, buffers_from}
-use Rattle.arrow_ipc.specs.Stream.{mark, end_mark, stream_of, CanBeWritten}
+use Rattle.arrow_ipc.specs.Columns.{cells, null_count}
+use Rattle.arrow_ipc.specs.Messages.{schema_message}
+use Rattle.arrow_ipc.specs.Stream.{mark, end_mark, message_bytes, stream_of, CanBeWritten}
 
 -- what a field is, where an absent one is this
 abbrev pub or_absent : {A : Type 0} → A → Result (Option A) FlatFault → Result A FlatFault
@@ -200,32 +201,23 @@ pub data BatchesHold (bytes : List ℕ) (schema : Schema) : ℕ → List Row →
   batch : (at next : ℕ) (header : TableView) (body : List ℕ) (rows more : List Row) → MessageAt bytes at 3 header body next → BatchHolds header body schema rows
       → BatchesHold bytes schema next more → BatchesHold bytes schema at (rows ++ more)
 
--- The bytes are a stream of this schema and these rows: its first message is the schema, and the others are batches.
-pub record Holds (bytes : List ℕ) (schema : Schema) (rows : List Row) : Type 0 where
+-- the stream's first message is the schema, and the next one stands at `next`
+pub record BeginsWithSchema (bytes : List ℕ) (schema : Schema) (next : ℕ) : Type 0 where
   pub header : TableView
   pub body : List ℕ
-  pub next : ℕ
   pub message : MessageAt bytes 0 1 header body next
   pub schema_is : SchemaHolds header schema
+
+-- The bytes are a stream of this schema and these rows: first comes the schema, then come batches.
+pub record Holds (bytes : List ℕ) (schema : Schema) (rows : List Row) : Type 0 where
+  pub next : ℕ
+  pub begins : BeginsWithSchema bytes schema next
   pub batches : BatchesHold bytes schema next rows
 
 -- ---- the law
 
--- a value of its Rust type
-abbrev pub IsValue : Value → Type 0
-IsValue (V.Integer number) = FitsSigned w32 number
-IsValue (V.Long number) = FitsSigned w64 number
-IsValue (V.Text text) = IsUtf8 text
-IsValue (V.Date days) = FitsSigned w32 days
-IsValue other = Unit {0}
-
--- names and values of their Rust types, and numbers of rows and bytes that memory has
-pub record AreInMemory (schema : Schema) (rows : List Row) : Type 0 where
-  pub names : All (λ field. IsUtf8 field.name) schema.0
-  pub values : All (λ row. All IsValue row.0) rows
-  pub count : length rows < 2 ^ 63
-  pub body : length (body_of (buffers_from 0 schema.0 rows)) < 2 ^ 63
-
--- what is written holds the schema and the rows
-abbrev pub WrittenStreamsHold : Type 0
-WrittenStreamsHold = (schema : Schema) (rows : List Row) → CanBeWritten schema rows → AreInMemory schema rows → Holds (stream_of schema rows) schema rows
+-- What is written begins with its schema, where the names are texts and there is nothing that can't be written. The batch comes next.
+abbrev pub WrittenStreamsBeginWithSchemas : Type 0
+WrittenStreamsBeginWithSchemas =
+    (schema : Schema) (rows : List Row) → CanBeWritten schema rows → All (λ field. IsUtf8 field.name) schema.0
+      → BeginsWithSchema (stream_of schema rows) schema (length (message_bytes (schema_message schema)))

@@ -5,10 +5,12 @@ mod batch;
 mod bitmap;
 mod columns;
 mod fit;
+mod laws;
 mod messages;
 #[cfg(test)]
 mod tests;
 mod write;
 
 pub use fit::can_be_written;
+pub use laws::written_streams_begin_with_schemas;
 pub use write::write_stream;
