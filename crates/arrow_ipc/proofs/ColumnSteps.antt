@@ -7,7 +7,7 @@ use Rattle.cn_types.specs.declared.schema.Field.{Field}
 use Rattle.flat_tables.specs.declared.object.FlatPair.{FlatPair}
 use Rattle.flat_tables.specs.Layout.{padded}
 use Rattle.arrow_ipc.specs.Columns.{cells, column_buffers, buffers_from, body_of, spans_from, node_of, nodes_from, Gains}
-use Rattle.arrow_ipc.proofs.Buffers.{spans_from-append, Gains_both}
+use Rattle.arrow_ipc.proofs.Buffers.{spans_from-append}
 
 first_field : (fields : List Field) (column : ℕ) (field : Field) → column < length fields → field ≡ get_or fields column field → drop column fields ≡ field ∷ drop (column + 1) fields
 first_field fields column field h e = rw (add-one, drop-cons fields column field) (ap (λ (f : Field). f ∷ drop (suc column) fields) (sym e))

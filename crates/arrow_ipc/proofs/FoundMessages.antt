@@ -1,10 +1,7 @@
 -- The messages that are written are read as such.
-use Rattle.std.proofs.Common.{◌≡◌, ◌≢◌, ℕ, zero, suc, ◌+◌, ◌*◌, ◌^◌, ◌<◌, ◌≤◌, Bool, true, false, List, [], ◌∷◌, ◌++◌, length, map, take, drop, Option, None, Some, Result, Ok, Err, arith, refl, ap, ◌∙◌, sym, subst, inl, inr, length-append}
-use Rattle.std.specs.Prelude.{ℤ, pos, slice_get, IsTrue, IsUtf8, ◌↔◌, FitsSigned, if◌then◌else◌}
-use Rattle.std.specs.List.{All, AllByRecursion}
-use Rattle.std.specs.Int.{w16, w32, w64}
-use Rattle.std.proofs.lemmas.Int.{ints}
-use Rattle.std.proofs.lemmas.List.Elements.{All-from_recursion}
+use Rattle.std.proofs.Common.{◌≡◌, ℕ, zero, suc, ◌+◌, ◌*◌, Bool, true, false, List, [], ◌∷◌, length, map, Option, Some, Result, Ok, arith, refl, ap, ◌∙◌, subst, inr}
+use Rattle.std.specs.Prelude.{pos, slice_get, IsTrue, IsUtf8, ◌↔◌, if◌then◌else◌}
+use Rattle.std.specs.List.{AllByRecursion}
 use Rattle.cn_types.specs.declared.value.DataType.{DataType}
 use Rattle.cn_types.specs.declared.value.DataType.TheVariants as K
 use Rattle.cn_types.specs.declared.schema.Field.{Field}
@@ -14,16 +11,13 @@ use Rattle.flat_tables.specs.declared.object.FlatObject.{FlatObject}
 use Rattle.flat_tables.specs.declared.object.FlatObject.TheVariants as O
 use Rattle.flat_tables.specs.declared.object.FlatObject.TheViews.{outs-Table, outs-Tables, outs-Pairs, outs-Text}
 use Rattle.flat_tables.specs.declared.object.FlatSlot.{FlatSlot}
-use Rattle.flat_tables.specs.declared.object.FlatSlot.TheVariants.{Absent, U8, I16, I32, I64, Object}
+use Rattle.flat_tables.specs.declared.object.FlatSlot.TheVariants.{Absent, U8, I16, I32, Object}
 use Rattle.flat_tables.specs.declared.object.FlatPair.{FlatPair}
 use Rattle.flat_tables.specs.Views.{TableView, VectorView}
-use Rattle.flat_tables.specs.Reading.{◌>>=◌, at_field, field_at, named_table, named_vector, named_text, u8_field, i16_field, i32_field, i64_field, table_field, text_field, vector_field, item_bytes, item_table, i64_at}
-use Rattle.flat_tables.specs.Layout.{layout, CanBePut, OnNamed, pair_bytes, i64_bytes}
-use Rattle.flat_tables.specs.Found.{Finding, Found, FoundTo, SlotsRead, TablesRead, PairsRead, NumberFits, HasFittingNumbers, ReadsBack}
-use Rattle.flat_tables.specs.ObjectLaws.{HasFittingNumbers-Table, HasFittingNumbers-Tables, HasFittingNumbers-Pairs, HasFittingNumbers-Text}
-use Rattle.arrow_ipc.specs.Messages.{type_number, type_table, field_table, schema_table, batch_table, message_table}
-use Rattle.arrow_ipc.specs.Holds.{or_absent, IsTrueByte, IsInt, IsDayDate, IsOfType, HasNoItem, FieldHolds, SchemaHolds, PairIs}
-use Rattle.arrow_ipc.proofs.Standing.{Stands, whole, first, second, n64_there}
+use Rattle.flat_tables.specs.Reading.{◌>>=◌, at_field, field_at, named_table, named_vector, named_text, u8_field}
+use Rattle.flat_tables.specs.Found.{Found, FoundTo, SlotsRead, TablesRead, PairsRead}
+use Rattle.arrow_ipc.specs.Messages.{type_number, type_table, field_table, schema_table}
+use Rattle.arrow_ipc.specs.Holds.{or_absent, IsTrueByte, IsOfType, FieldHolds, SchemaHolds}
 
 -- ---- what is found, by kind of object
 
@@ -33,7 +27,7 @@ found_table d slots b place h = subst (λ x. Found (FoundTo d) x b place) (outs-
 found_tables : (d : ℕ) (tables : List FlatObject) (b : List ℕ) (place : ℕ) → FoundTo (suc d) (O.Tables tables) b place → (v : VectorView) × (named_vector b 4 place ≡ Ok v) × TablesRead (FoundTo d) v tables
 found_tables d tables b place h = subst (λ x. Found (FoundTo d) x b place) (outs-Tables tables) h
 
-found_pairs : (d : ℕ) (pairs : List FlatPair) (b : List ℕ) (place : ℕ) → FoundTo (suc d) (O.Pairs pairs) b place → (v : VectorView) × (named_vector b 16 place ≡ Ok v) × PairsRead v pairs
+pub found_pairs : (d : ℕ) (pairs : List FlatPair) (b : List ℕ) (place : ℕ) → FoundTo (suc d) (O.Pairs pairs) b place → (v : VectorView) × (named_vector b 16 place ≡ Ok v) × PairsRead v pairs
 found_pairs d pairs b place h = subst (λ x. Found (FoundTo d) x b place) (outs-Pairs pairs) h
 
 found_text : (d : ℕ) (text : List ℕ) (b : List ℕ) (place : ℕ) → FoundTo (suc d) (O.Text text) b place → named_text b place ≡ Ok text
@@ -114,7 +108,7 @@ field_holds field t utf8 r =
 
 -- ---- the schema
 
-get-map : {X Y : Type 0} → (f : X → Y) (xs : List X) (i : ℕ) (x : X) → slice_get xs i ≡ Some x → slice_get (map f xs) i ≡ Some (f x)
+pub get-map : {X Y : Type 0} → (f : X → Y) (xs : List X) (i : ℕ) (x : X) → slice_get xs i ≡ Some x → slice_get (map f xs) i ≡ Some (f x)
 get-map f [] i x e = absurd (cc)
 get-map f (y ∷ ys) zero x e = let same : y ≡ x = cc in ap (λ z. Some (f z)) same
 get-map f (y ∷ ys) (suc i) x e = get-map f ys i x e
@@ -145,7 +139,7 @@ schema_holds schema t utf8 r =
       fields_are = field_read (named_vector t.buffer 4) (field_at t.buffer t.place 1) named.0 fields.0 named.1 fields.1;
       count = fields.2.count ∙ length-fields schema.0;
       each = λ place field e.
-        let found = found_table 2 (field_slots field) fields.0.buffer (fields.0.start + place * 4)
+          let found = found_table 2 (field_slots field) fields.0.buffer (fields.0.start + place * 4)
           (subst (λ (o : FlatObject). FoundTo 3 o fields.0.buffer (fields.0.start + place * 4)) (field_table_is field) (fields.2.each place (field_table field) (get-map field_table schema.0 place field e))) in
-        (found.0, found.1, field_holds field found.0 (All-at (λ (f : Field). IsUtf8 f.name) schema.0 place field utf8 e) found.2);
+          (found.0, found.1, field_holds field found.0 (All-at (λ (f : Field). IsUtf8 f.name) schema.0 place field utf8 e) found.2);
     }

@@ -6,3 +6,6 @@ pub mod Streams
 pub mod Standing
 pub mod FoundMessages
 pub mod WrittenSchema
+pub mod CellsStand
+pub mod FoundBatch
+pub mod WrittenBatch

@@ -1,9 +1,11 @@
 -- The messages of what can be written can be put into a flatbuffer.
-use Rattle.std.proofs.Common.{◌≡◌, ℕ, zero, suc, ◌+◌, ◌*◌, ◌-◌, ◌%◌, ◌^◌, ◌<◌, ◌≤◌, List, [], ◌∷◌, ◌++◌, length, map, sum_by, arith, refl, ap, ◌∙◌, sym, subst, length-append}
-use Rattle.std.specs.Prelude.{pos, unwrap_or, slice_get, All, if◌then◌else◌}
+use Rattle.std.proofs.Common.{◌≡◌, ℕ, zero, suc, ◌+◌, ◌*◌, ◌^◌, ◌<◌, ◌≤◌, List, [], ◌∷◌, length, map, sum_by, arith, refl, ap, length-append}
+use Rattle.std.specs.Prelude.{pos, unwrap_or, slice_get, if◌then◌else◌}
 use Rattle.std.specs.List.{AllByRecursion}
 use Rattle.std.proofs.lemmas.List.Elements.{All-from_recursion}
+use Rattle.std.specs.List.{flat_map}
 use Rattle.std.proofs.lemmas.List.Sums.{sum_by-cons}
+use Rattle.std.proofs.lemmas.List.Concat.{length-flat_map}
 use Rattle.cn_types.specs.declared.value.Value.{Value}
 use Rattle.cn_types.specs.declared.value.Value.TheVariants as V
 use Rattle.cn_types.specs.declared.value.DataType.{DataType}
@@ -19,9 +21,9 @@ use Rattle.flat_tables.specs.declared.object.FlatPair.{FlatPair}
 use Rattle.flat_tables.specs.Layout.{layout, padded, CanBePut, IsTable, IsBuildable, OnNamed}
 use Rattle.flat_tables.specs.ObjectSizes.{SizesAddUp, size}
 use Rattle.flat_tables.specs.ObjectLaws.{IsTable-Table, IsBuildable-Table, IsBuildable-Tables, IsBuildable-Pairs, IsBuildable-Text}
-use Rattle.arrow_ipc.specs.Columns.{value_at, cells, text_size, column_buffers, buffers_from, spans_from, nodes_from, body_of, value_buffers}
+use Rattle.arrow_ipc.specs.Columns.{value_at, cells, text_of, text_size, column_buffers, buffers_from, spans_from, nodes_from, body_of}
 use Rattle.arrow_ipc.specs.Messages.{type_number, type_table, field_table, schema_table, batch_table, message_table, schema_message, batch_message}
-use Rattle.arrow_ipc.specs.Stream.{names_and_texts, CanBeWritten}
+use Rattle.arrow_ipc.specs.Stream.{CanBeWritten}
 
 -- ---- texts
 
@@ -44,6 +46,12 @@ column_texts column (row ∷ rows) =
 pub texts_fit : (schema : Schema) (rows : List Row) (column : ℕ) → CanBeWritten schema rows → sum_by text_size (cells column rows) < 2 ^ 32
 unfolding row_texts
 texts_fit schema rows column can = omega (arith, column_texts column rows, can.texts)
+
+pub texts_below : (schema : Schema) (rows : List Row) (column : ℕ) → CanBeWritten schema rows → length (flat_map text_of (cells column rows)) < 2 ^ 31
+unfolding row_texts
+texts_below schema rows column can =
+    let e : length (flat_map text_of (cells column rows)) ≡ sum_by text_size (cells column rows) = length-flat_map text_of (cells column rows) in
+    omega (arith, column_texts column rows, can.texts)
 
 -- ---- the schema's message
 

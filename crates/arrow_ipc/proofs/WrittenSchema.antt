@@ -1,5 +1,5 @@
 -- A written stream begins with its schema's message.
-use Rattle.std.proofs.Common.{◌≡◌, ℕ, suc, ◌+◌, ◌*◌, ◌^◌, ◌<◌, ◌≤◌, Bool, true, false, List, [], ◌∷◌, ◌++◌, length, map, take, drop, Some, Ok, arith, refl, ap, ◌∙◌, sym, subst, inr, length-append}
+use Rattle.std.proofs.Common.{◌≡◌, ℕ, ◌+◌, ◌^◌, ◌<◌, Bool, true, false, List, [], ◌∷◌, ◌++◌, length, map, arith, refl, ap, ◌∙◌, sym, subst, inr, length-append}
 use Rattle.std.specs.Prelude.{pos, IsUtf8, FitsSigned, if◌then◌else◌}
 use Rattle.std.specs.List.{All, AllByRecursion}
 use Rattle.std.specs.Int.{w16, w32, w64, to_le_bytes}
@@ -14,7 +14,7 @@ use Rattle.cn_types.specs.declared.schema.Schema.{Schema}
 use Rattle.flat_tables.specs.declared.object.FlatObject.{FlatObject}
 use Rattle.flat_tables.specs.declared.object.FlatObject.TheVariants as O
 use Rattle.flat_tables.specs.declared.object.FlatSlot.{FlatSlot}
-use Rattle.flat_tables.specs.declared.object.FlatSlot.TheVariants.{Absent, U8, I16, I32, I64, Object}
+use Rattle.flat_tables.specs.declared.object.FlatSlot.TheVariants.{U8, I16, I32, I64, Object}
 use Rattle.flat_tables.specs.Views.{TableView}
 use Rattle.flat_tables.specs.Reading.{field_at, named_table}
 use Rattle.flat_tables.specs.Layout.{layout, CanBePut, OnNamed}
@@ -27,7 +27,7 @@ use Rattle.arrow_ipc.specs.Stream.{mark, end_mark, message_bytes, stream_of, Can
 use Rattle.arrow_ipc.specs.Holds.{or_absent, MessageAt, BeginsWithSchema}
 use Rattle.arrow_ipc.proofs.Sizes.{schema_can_be_put}
 use Rattle.arrow_ipc.proofs.Standing.{Stands, whole, first, second, within, taken, n32_there}
-use Rattle.arrow_ipc.proofs.FoundMessages.{found_table, field_read, type_slots, type_table_is, field_slots, field_table_is, schema_slots, schema_table_is, schema_holds}
+use Rattle.arrow_ipc.proofs.FoundMessages.{found_table, field_read, type_table_is, field_slots, field_table_is, schema_slots, schema_table_is, schema_holds}
 
 -- ---- one message
 
@@ -44,7 +44,7 @@ message_numbers number header body n b h =
     let four : FitsSigned w16 (pos 4) = omega (arith, ints) in
     let size : FitsSigned w64 (pos body) = omega (arith, ints) in
     subst HasFittingNumbers (sym (message_table_is number header body))
-      (HasFittingNumbers-Table slots (All-from_recursion NumberFits slots (four, (n, (tt, (size, tt))))) (All-from_recursion (OnNamed HasFittingNumbers) slots (tt, (tt, (h, (tt, tt))))))
+    (HasFittingNumbers-Table slots (All-from_recursion NumberFits slots (four, (n, (tt, (size, tt))))) (All-from_recursion (OnNamed HasFittingNumbers) slots (tt, (tt, (h, (tt, tt))))))
 
 -- what a message is read as
 pub record IsRead (bytes : List ℕ) (at number : ℕ) (slots : List (FlatSlot FlatObject)) (body : List ℕ) (next : ℕ) : Type 0 where
@@ -68,7 +68,7 @@ message_is_read reads bytes at number slots body message same can fits s =
     let behind : at + length (message_bytes message) ≡ at + 8 + size = omega arith in
     let rest : Stands bytes (at + 8 + size) body = subst (λ (n : ℕ). Stands bytes n body) behind (second bytes at (message_bytes message) body s) in
     let found = found_table 5 (message_slots number (O.Table slots) (length body)) (layout message) 0
-      (subst (λ (o : FlatObject). FoundTo 6 o (layout message) 0) (same ∙ message_table_is number (O.Table slots) (length body)) (reads message can fits 6)) in
+    (subst (λ (o : FlatObject). FoundTo 6 o (layout message) 0) (same ∙ message_table_is number (O.Table slots) (length body)) (reads message can fits 6)) in
     let table = found.0 in
     let read = found.2 in
     let named = read.each 2 (Object (O.Table slots)) refl in
@@ -125,8 +125,8 @@ field_numbers field =
     let slots : List (FlatSlot FlatObject) = field_slots field in
     let children : HasFittingNumbers (O.Tables []) = HasFittingNumbers-Tables [] (All-from_recursion HasFittingNumbers [] tt) in
     subst HasFittingNumbers (sym (field_table_is field))
-      (HasFittingNumbers-Table slots (All-from_recursion NumberFits slots (tt, (flag_small field.nullable, (number_small field.kind, (tt, (tt, (tt, tt)))))))
-        (All-from_recursion (OnNamed HasFittingNumbers) slots (HasFittingNumbers-Text field.name, (tt, (tt, (type_numbers field.kind, (tt, (children, tt))))))))
+    (HasFittingNumbers-Table slots (All-from_recursion NumberFits slots (tt, (flag_small field.nullable, (number_small field.kind, (tt, (tt, (tt, tt)))))))
+    (All-from_recursion (OnNamed HasFittingNumbers) slots (HasFittingNumbers-Text field.name, (tt, (tt, (type_numbers field.kind, (tt, (children, tt))))))))
 
 fields_numbers : (fields : List Field) → AllByRecursion HasFittingNumbers (map field_table fields)
 fields_numbers [] = tt
@@ -138,7 +138,7 @@ schema_numbers schema =
     let zero_fits : FitsSigned w16 (pos 0) = omega (arith, ints) in
     let fields : HasFittingNumbers (O.Tables (map field_table schema.0)) = HasFittingNumbers-Tables (map field_table schema.0) (All-from_recursion HasFittingNumbers (map field_table schema.0) (fields_numbers schema.0)) in
     subst HasFittingNumbers (sym (schema_table_is schema))
-      (HasFittingNumbers-Table slots (All-from_recursion NumberFits slots (zero_fits, (tt, tt))) (All-from_recursion (OnNamed HasFittingNumbers) slots (tt, (fields, tt))))
+    (HasFittingNumbers-Table slots (All-from_recursion NumberFits slots (zero_fits, (tt, tt))) (All-from_recursion (OnNamed HasFittingNumbers) slots (tt, (fields, tt))))
 
 -- ---- the beginning of the stream
 
@@ -152,8 +152,8 @@ begins_with_schema sizes reads schema rows can names =
     let one : 1 < 2 ^ 8 = omega arith in
     let there : Stands (stream_of schema rows) 0 (message_bytes message) = first (stream_of schema rows) 0 (message_bytes message) (message_bytes (batch_message schema rows) ++ (body_of (buffers_from 0 schema.0 rows) ++ end_mark)) (whole (stream_of schema rows)) in
     let read : IsRead (stream_of schema rows) 0 1 (schema_slots schema) [] (0 + length (message_bytes message) + 0)
-          = message_is_read reads (stream_of schema rows) 0 1 (schema_slots schema) [] message same (schema_can_be_put sizes schema rows can) (message_numbers 1 (schema_table schema) 0 one none (schema_numbers schema))
-              (subst (Stands (stream_of schema rows) 0) (sym (append-nil (message_bytes message))) there) in
+    = message_is_read reads (stream_of schema rows) 0 1 (schema_slots schema) [] message same (schema_can_be_put sizes schema rows can) (message_numbers 1 (schema_table schema) 0 one none (schema_numbers schema))
+    (subst (Stands (stream_of schema rows) 0) (sym (append-nil (message_bytes message))) there) in
     let at : 0 + length (message_bytes message) + 0 ≡ length (message_bytes message) = omega arith in
     record {
       header = read.header;

@@ -1,5 +1,5 @@
 -- The buffers of a column as they are written (Arrow Columnar Format, "Physical Memory Layout"). Numbers have their least byte first.
-use Rattle.std.specs.Prelude.{ℕ, ◌+◌, ◌*◌, ◌/◌, ◌%◌, ◌≡◌, ◌==◌, pos, Bool, true, false, not, if◌then◌else◌, List, [], ◌∷◌, ◌++◌, length, take, drop, map, sum_by, count_by, unwrap_or, slice_get}
+use Rattle.std.specs.Prelude.{ℕ, ◌+◌, ◌*◌, ◌/◌, ◌%◌, ◌≡◌, ◌==◌, pos, Bool, true, false, not, if◌then◌else◌, List, [], ◌∷◌, ◌++◌, length, take, drop, map, count_by, unwrap_or, slice_get}
 use Rattle.std.specs.List.{flat_map, range_with_len}
 use Rattle.std.specs.Int.{w32, w64, to_le_bytes, cast_unsigned}
 use Rattle.cn_types.specs.declared.value.Value.{Value}
@@ -8,7 +8,6 @@ use Rattle.cn_types.specs.declared.value.DataType.{DataType}
 use Rattle.cn_types.specs.declared.value.DataType.TheVariants as K
 use Rattle.cn_types.specs.declared.row.Row.{Row}
 use Rattle.cn_types.specs.declared.schema.Field.{Field}
-use Rattle.cn_types.specs.declared.schema.Schema.{Schema}
 use Rattle.flat_tables.specs.declared.object.FlatPair.{FlatPair}
 use Rattle.flat_tables.specs.Layout.{zeros, padded}
 

@@ -1,7 +1,7 @@
 -- What a stream holds (Arrow Columnar Format, "IPC Streaming Format", "Encapsulated message format", "Physical Memory Layout"; Message.fbs
 -- and Schema.fbs), one cell at a time.
-use Rattle.std.specs.Prelude.{◌≡◌, ◌≢◌, ◌↔◌, ◌⊎◌, ℕ, ◌+◌, ◌-◌, ◌*◌, ◌/◌, ◌%◌, ◌^◌, ◌<◌, ◌≤◌, ℤ, pos, List, [], ◌∷◌, ◌++◌, length, take, drop, slice_index, slice_get, Option, None, Some, Result, Ok, Err, All, IsTrue, IsUtf8}
-use Rattle.std.specs.Int.{bit_at}
+use Rattle.std.specs.Prelude.{◌≡◌, ◌≢◌, ◌↔◌, ◌⊎◌, ℕ, ◌+◌, ◌-◌, ◌*◌, ◌/◌, ◌%◌, ◌^◌, ◌<◌, ◌≤◌, ℤ, pos, List, [], ◌∷◌, ◌++◌, length, take, drop, slice_index, slice_get, Option, None, Some, Result, Ok, Err, All, IsTrue, IsUtf8, FitsSigned}
+use Rattle.std.specs.Int.{w32, w64, bit_at}
 use Rattle.cn_types.specs.Fit.{IsDay}
 use Rattle.cn_types.specs.declared.value.Value.{Value}
 use Rattle.cn_types.specs.declared.value.Value.TheVariants as V
@@ -13,9 +13,8 @@ use Rattle.cn_types.specs.declared.schema.Schema.{Schema}
 use Rattle.flat_tables.specs.declared.fault.FlatFault.{FlatFault}
 use Rattle.flat_tables.specs.Views.{TableView, VectorView}
 use Rattle.flat_tables.specs.Reading.{i32_at, i64_at, field_at, named_table, u8_field, i16_field, i32_field, i64_field, table_field, text_field, vector_field, item_bytes, item_table}
-use Rattle.arrow_ipc.specs.Columns.{cells, null_count}
-use Rattle.arrow_ipc.specs.Messages.{schema_message}
-use Rattle.arrow_ipc.specs.Stream.{mark, end_mark, message_bytes, stream_of, CanBeWritten}
+use Rattle.arrow_ipc.specs.Columns.{cells, null_count, body_of, buffers_from}
+use Rattle.arrow_ipc.specs.Stream.{mark, end_mark, stream_of, CanBeWritten}
 
 -- what a field is, where an absent one is this
 abbrev pub or_absent : {A : Type 0} → A → Result (Option A) FlatFault → Result A FlatFault
@@ -216,8 +215,22 @@ pub record Holds (bytes : List ℕ) (schema : Schema) (rows : List Row) : Type 0
 
 -- ---- the law
 
--- What is written begins with its schema, where the names are texts and there is nothing that can't be written. The batch comes next.
-abbrev pub WrittenStreamsBeginWithSchemas : Type 0
-WrittenStreamsBeginWithSchemas =
-    (schema : Schema) (rows : List Row) → CanBeWritten schema rows → All (λ field. IsUtf8 field.name) schema.0
-      → BeginsWithSchema (stream_of schema rows) schema (length (message_bytes (schema_message schema)))
+-- a value of its Rust type
+abbrev pub IsValue : Value → Type 0
+IsValue V.Null = Unit {0}
+IsValue (V.Boolean truth) = Unit {0}
+IsValue (V.Integer number) = FitsSigned w32 number
+IsValue (V.Long number) = FitsSigned w64 number
+IsValue (V.Text text) = IsUtf8 text
+IsValue (V.Date days) = FitsSigned w32 days
+
+-- names and values of their Rust types, and as many rows and bytes as memory can hold
+pub record AreInMemory (schema : Schema) (rows : List Row) : Type 0 where
+  pub names : All (λ field. IsUtf8 field.name) schema.0
+  pub values : All (λ row. All IsValue row.0) rows
+  pub count : length rows < 2 ^ 63
+  pub body : length (body_of (buffers_from 0 schema.0 rows)) < 2 ^ 63
+
+-- what is written holds the schema and the rows
+abbrev pub WrittenStreamsHold : Type 0
+WrittenStreamsHold = (schema : Schema) (rows : List Row) → CanBeWritten schema rows → AreInMemory schema rows → Holds (stream_of schema rows) schema rows

@@ -1,5 +1,5 @@
 -- The tables of the two messages (Arrow's Message.fbs and Schema.fbs), by slot.
-use Rattle.std.specs.Prelude.{ℕ, pos, Bool, if◌then◌else◌, List, [], ◌∷◌, length, map}
+use Rattle.std.specs.Prelude.{ℕ, pos, if◌then◌else◌, List, [], ◌∷◌, length, map}
 use Rattle.cn_types.specs.declared.value.DataType.{DataType}
 use Rattle.cn_types.specs.declared.value.DataType.TheVariants as K
 use Rattle.cn_types.specs.declared.row.Row.{Row}
@@ -7,7 +7,6 @@ use Rattle.cn_types.specs.declared.schema.Field.{Field}
 use Rattle.cn_types.specs.declared.schema.Schema.{Schema}
 use Rattle.flat_tables.specs.declared.object.FlatObject.{FlatObject}
 use Rattle.flat_tables.specs.declared.object.FlatObject.TheVariants as O
-use Rattle.flat_tables.specs.declared.object.FlatSlot.{FlatSlot}
 use Rattle.flat_tables.specs.declared.object.FlatSlot.TheVariants.{Absent, U8, I16, I32, I64, Object}
 use Rattle.flat_tables.specs.declared.object.FlatPair.{FlatPair}
 use Rattle.arrow_ipc.specs.Columns.{buffers_from, spans_from, nodes_from, body_of}

@@ -1,4 +1,4 @@
-use Rattle.std.proofs.Common.{◌≡◌, ℕ, ◌+◌, ◌<◌, ◌++◌, List, length, drop, get_or, ap, subst, ◌∙◌}
+use Rattle.std.proofs.Common.{◌≡◌, ◌+◌, ◌<◌, ◌++◌, List, length, drop, get_or, ap, subst, ◌∙◌}
 use Rattle.cn_types.specs.declared.schema.Field.{Field}
 use Rattle.arrow_ipc.specs.Columns.{cells, column_buffers, buffers_from}
 use Rattle.arrow_ipc.proofs.Sizes.{texts_fit}

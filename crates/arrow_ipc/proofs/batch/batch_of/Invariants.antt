@@ -1,5 +1,5 @@
 -- the columns so far and those that are left are all columns
-use Rattle.std.proofs.Common.{◌≡◌, ◌+◌, ◌%◌, ◌++◌, length, drop}
+use Rattle.std.proofs.Common.{◌≡◌, ◌%◌, ◌++◌, length, drop}
 use Rattle.arrow_ipc.specs.Columns.{buffers_from, body_of, spans_from, nodes_from}
 use Rattle.arrow_ipc.proofs.batch.batch_of.Given as goal
 

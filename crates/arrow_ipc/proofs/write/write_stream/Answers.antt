@@ -1,4 +1,4 @@
-use Rattle.std.proofs.Common.{◌≡◌, length, subst, refl, sym, ◌∙◌}
+use Rattle.std.proofs.Common.{◌≡◌, subst, sym, ◌∙◌}
 use Rattle.flat_tables.specs.Layout.{CanBePut}
 use Rattle.arrow_ipc.specs.Columns.{buffers_from, body_of}
 use Rattle.arrow_ipc.specs.Messages.{batch_message}
