@@ -1,0 +1,11 @@
+pub mod Bits
+pub mod Buffers
+pub mod Sizes
+pub mod ColumnSteps
+pub mod Streams
+pub mod Standing
+pub mod FoundMessages
+pub mod WrittenSchema
+pub mod CellsStand
+pub mod FoundBatch
+pub mod WrittenBatch

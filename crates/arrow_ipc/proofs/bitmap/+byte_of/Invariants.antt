@@ -1,0 +1,6 @@
+-- each call has one bit less
+use Rattle.std.proofs.Common.{length}
+use Rattle.arrow_ipc.proofs.bitmap.+byte_of.Given as goal
+
+abbrev pub decreases-byte_of : goal.decreases-byte_of
+decreases-byte_of l = length l.bits.now
