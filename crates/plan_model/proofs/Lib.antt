@@ -1,0 +1,4 @@
+pub mod ComparisonFacts
+pub mod Parts
+pub mod ValueFacts
+pub mod WorkedFacts
