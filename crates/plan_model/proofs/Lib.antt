@@ -1,3 +1,5 @@
+pub mod AggregateFacts
+pub mod CastFacts
 pub mod ComparisonFacts
 pub mod Parts
 pub mod ValueFacts

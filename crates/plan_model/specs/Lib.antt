@@ -1,4 +1,5 @@
 -- The value of an expression over a row, by Spark SQL's built-in functions, and of an aggregate over the rows of a group.
+pub mod AggregateLaws
 pub mod Aggregates
 pub mod Arithmetic
 pub mod Casts

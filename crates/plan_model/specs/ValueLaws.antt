@@ -1,14 +1,14 @@
--- What the values of expressions and aggregates hold.
-use Rattle.std.specs.Prelude.{◌≡◌, ◌≢◌, ◌↔◌, ℕ, pos, Bool, IsTrue, List, [], ◌++◌, map}
+-- What the values of expressions hold.
+use Rattle.std.specs.Prelude.{◌≡◌, ◌↔◌, ℕ, ℤ, IsTrue, List, ◌++◌, map}
 use Rattle.cn_types.specs.declared.row.Row.{Row}
 use Rattle.cn_types.specs.declared.value.DataType.{DataType}
 use Rattle.cn_types.specs.declared.value.Value.{Value}
-use Rattle.cn_types.specs.declared.value.Value.TheVariants.{Null, Long}
+use Rattle.cn_types.specs.Fit.{HasType, HasDateInRange, IsDay}
 use Rattle.plan_model.specs.declared.function.Function.{Function}
 use Rattle.plan_model.specs.declared.expression.TypedExpr.{TypedExpr}
 use Rattle.plan_model.specs.declared.expression.TypedExpr.TheVariants.{Column, Literal, Call, Cast}
-use Rattle.plan_model.specs.Aggregates.{present, count_of, sum_of, least, greatest}
 use Rattle.plan_model.specs.Casts.{cast_to}
+use Rattle.plan_model.specs.DateFunctions.{is_day}
 use Rattle.plan_model.specs.Functions.{call}
 use Rattle.plan_model.specs.Texts.{has_part}
 use Rattle.plan_model.specs.Val.{val, value_at}
@@ -20,16 +20,14 @@ pub record ValuesOfForms : Type 0 where
   pub call_form : (function : Function) (arguments : List TypedExpr) (kind : DataType) (row : Row) → val (Call function arguments kind) row ≡ call function kind (map (λ argument. val argument row) arguments)
   pub cast : (child : TypedExpr) (kind : DataType) (row : Row) → val (Cast child kind) row ≡ cast_to kind (val child row)
 
--- over no value a sum, a least and a greatest value are null, and a count is zero
-pub record NoValues : Type 0 where
-  pub sum_null : (values : List Value) → present values ≡ [] → sum_of values ≡ Null
-  pub least_null : (values : List Value) → present values ≡ [] → least values ≡ Null
-  pub greatest_null : (values : List Value) → present values ≡ [] → greatest values ≡ Null
-  pub count_zero : (distinct : Bool) (values : List Value) → present values ≡ [] → count_of distinct values ≡ Long (pos 0)
+-- a cast gives a value of its type, and changes no value that has the type
+pub record CastsGiveTheType : Type 0 where
+  pub typed : (kind : DataType) (value : Value) → HasDateInRange value → HasType kind (cast_to kind value)
+  pub own_type : (kind : DataType) (value : Value) → HasType kind value → cast_to kind value ≡ value
 
--- a count is never null
-abbrev pub CountsAreNeverNull : Type 0
-CountsAreNeverNull = (distinct : Bool) (values : List Value) → count_of distinct values ≢ Null
+-- the test of a day is that it is in range
+abbrev pub DaysAreTested : Type 0
+DaysAreTested = (day : ℤ) → IsTrue (is_day day) ↔ IsDay day
 
 -- a text has a part exactly where it is something, then the part, then something
 abbrev pub PartsAreWithin : Type 0

@@ -1,8 +1,9 @@
 ghost use Rattle.plan_model.specs.LogicLaws.{TruthTables, TruthCommutes, DeMorgan, EqualityTellsSameness, NullSafeEqualityTellsSameness};
-ghost use Rattle.plan_model.specs.ValueLaws.{ValuesOfForms, NoValues, CountsAreNeverNull, PartsAreWithin};
+ghost use Rattle.plan_model.specs.AggregateLaws.{NoValues, CountsAreNeverNull, TotalsAddUp, ExtremesAreReached};
+ghost use Rattle.plan_model.specs.ValueLaws.{ValuesOfForms, CastsGiveTheType, DaysAreTested, PartsAreWithin};
 ghost use Rattle.plan_model.specs.WorkedRows.{WorkedNumbers, WorkedTruths, WorkedTextsAndDates, WorkedCasts, WorkedAggregates};
 
-use cn_types::equal_values_are_the_same;
+use cn_types::{equal_values_are_the_same, values_are_ordered};
 
 /// Law: `and`, `or` and `not` have Kleene's three-valued tables.
 pub fn truth_tables_are_three_valued()
@@ -46,6 +47,28 @@ pub fn no_values_sum_to_null()
 /// Law: `count` is never null.
 pub fn counts_are_never_null()
     ensures { CountsAreNeverNull }
+{}
+
+/// Law: the sum of the numbers of two lists is that of both, so a sum doesn't depend on how rows are grouped.
+pub fn totals_add_up()
+    ensures { TotalsAddUp }
+{}
+
+/// Law: `min` and `max` bound the values that are not null, and are among them where there are any.
+pub fn extremes_are_reached()
+    ensures { ExtremesAreReached }
+{
+    values_are_ordered();
+}
+
+/// Law: a cast gives a value of its type, or null, and changes no value that has the type.
+pub fn casts_give_the_type()
+    ensures { CastsGiveTheType }
+{}
+
+/// Law: the test of a day is true exactly from 0001-01-01 to 9999-12-31.
+pub fn days_are_tested()
+    ensures { DaysAreTested }
 {}
 
 /// Law: `contains` is true exactly where the second text is a part of the first.
