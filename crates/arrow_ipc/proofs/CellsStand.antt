@@ -13,7 +13,8 @@ use Rattle.cn_types.specs.declared.value.Value.TheVariants as V
 use Rattle.flat_tables.specs.Reading.{i32_at, i64_at}
 use Rattle.arrow_ipc.specs.Columns.{has_value, null_count, truth, bytes_of_4, bytes_of_8, text_of, text_size, number_of, bitmap, validity, offsets}
 use Rattle.arrow_ipc.specs.Holds.{IsBitOf, IsPresent, TextStands, OffsetsRise}
-use Rattle.arrow_ipc.proofs.Standing.{Stands, whole, first, second, taken, uniform, i32_there, i64_there, n32_there}
+use Rattle.flat_tables.proofs.Standing.{Stands, first, second, taken, uniform, i32_there}
+use Rattle.arrow_ipc.proofs.Standing.{whole, long_there, n32_there}
 
 -- ---- bits
 
@@ -159,7 +160,7 @@ pub date_stands : (values : List Value) (row : ℕ) (z : ℤ) → slice_get valu
 date_stands values row z e h = i32_there (flat_map bytes_of_4 values) (4 * row) z h (stands_4 values row (V.Date z) e)
 
 pub long_stands : (values : List Value) (row : ℕ) (z : ℤ) → slice_get values row ≡ Some (V.Long z) → FitsSigned w64 z → i64_at (flat_map bytes_of_8 values) (8 * row) ≡ Ok z
-long_stands values row z e h = i64_there (flat_map bytes_of_8 values) (8 * row) z h (stands_8 values row (V.Long z) e)
+long_stands values row z e h = long_there (flat_map bytes_of_8 values) (8 * row) z h (stands_8 values row (V.Long z) e)
 
 -- ---- texts
 

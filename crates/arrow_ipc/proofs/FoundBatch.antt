@@ -9,7 +9,8 @@ use Rattle.flat_tables.specs.Layout.{i64_bytes, padded, zeros}
 use Rattle.flat_tables.specs.Found.{PairsRead}
 use Rattle.arrow_ipc.specs.Columns.{body_of, spans_from}
 use Rattle.arrow_ipc.specs.Holds.{PairIs}
-use Rattle.arrow_ipc.proofs.Standing.{Stands, whole, first, second, n64_there}
+use Rattle.flat_tables.proofs.Standing.{Stands, first, second}
+use Rattle.arrow_ipc.proofs.Standing.{whole, n64_there}
 
 second_number : (buffer : List ℕ) (a b : ℕ) → Stands buffer 0 (i64_bytes (pos a) ++ i64_bytes (pos b)) → Stands buffer 8 (i64_bytes (pos b))
 unfolding i64_bytes

@@ -32,7 +32,8 @@ use Rattle.arrow_ipc.specs.Stream.{end_mark, message_bytes, stream_of, CanBeWrit
 use Rattle.arrow_ipc.specs.Holds.{or_absent, PairIs, BufferAt, BuffersAt, AreLongEnough, CellStands, ColumnsHold, BatchHolds, BatchesHold, IsValue, AreInMemory, WrittenStreamsHold, buffer_count}
 use Rattle.arrow_ipc.specs.Holds.{over, batch}
 use Rattle.arrow_ipc.proofs.Sizes.{batch_can_be_put, texts_below}
-use Rattle.arrow_ipc.proofs.Standing.{Stands, whole, first, second, within, taken}
+use Rattle.flat_tables.proofs.Standing.{Stands, first, second, within, taken}
+use Rattle.arrow_ipc.proofs.Standing.{whole}
 use Rattle.arrow_ipc.proofs.CellsStand.{present, missing, validity_long, bits_long, truth_stands, length-4s, length-8s, integer_stands, date_stands, long_stands, offsets_rise, text_stands}
 use Rattle.arrow_ipc.proofs.FoundMessages.{found_pairs, field_read, get-map}
 use Rattle.arrow_ipc.proofs.FoundBatch.{placed, pair_is}

@@ -26,7 +26,8 @@ use Rattle.arrow_ipc.specs.Messages.{type_number, type_table, field_table, schem
 use Rattle.arrow_ipc.specs.Stream.{mark, end_mark, message_bytes, stream_of, CanBeWritten}
 use Rattle.arrow_ipc.specs.Holds.{or_absent, MessageAt, BeginsWithSchema}
 use Rattle.arrow_ipc.proofs.Sizes.{schema_can_be_put}
-use Rattle.arrow_ipc.proofs.Standing.{Stands, whole, first, second, within, taken, n32_there}
+use Rattle.flat_tables.proofs.Standing.{Stands, first, second, within, taken}
+use Rattle.arrow_ipc.proofs.Standing.{whole, n32_there}
 use Rattle.arrow_ipc.proofs.FoundMessages.{found_table, field_read, type_table_is, field_slots, field_table_is, schema_slots, schema_table_is, schema_holds}
 
 -- ---- one message

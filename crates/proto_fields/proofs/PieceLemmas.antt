@@ -1,5 +1,6 @@
--- The fields that scalars, optional scalars and payloads are written as: that they have a spelling, how long it is, and that a number is sound.
-use Rattle.std.proofs.Common.{ℕ, ℤ, ◌+◌, ◌*◌, ◌<◌, ◌≤◌, ◌^◌, ◌==◌, Bool, true, false, List, [], ◌∷◌, ◌++◌, length, ap, arith, length-append}
+-- The fields that scalars, optional scalars and payloads are written as: what is read among them, that they have a spelling, how long it
+-- is, and that a number is sound.
+use Rattle.std.proofs.Common.{◌≡◌, ◌≢◌, ℕ, ℤ, ◌+◌, ◌*◌, ◌<◌, ◌≤◌, ◌^◌, ◌==◌, Bool, true, false, List, [], ◌∷◌, ◌++◌, length, refl, ap, arith, length-append}
 use Rattle.std.specs.Prelude.{Option, Some, None, IfSome, FitsSigned, if◌then◌else◌}
 use Rattle.std.specs.Int.{w32, w64}
 use Rattle.std.specs.List.{AllByRecursion}
@@ -7,13 +8,41 @@ use Rattle.std.proofs.lemmas.Int.{ints}
 use Rattle.proto_wire.specs.Varint.{varint}
 use Rattle.proto_wire.proofs.VarintLaws.{length-varint}
 use Rattle.proto_fields.specs.declared.kind.MessageKind.{MessageKind}
+use Rattle.proto_fields.specs.Fields.{Field}
 use Rattle.proto_fields.specs.Faults.{IsSoundField}
+use Rattle.proto_fields.specs.Readings.{number_in, last_number}
 use Rattle.proto_fields.specs.Spelling.{spell, IsWritable, number_fields, payload_fields, int_fields, optional_int_fields, bits_of}
+use Rattle.proto_fields.proofs.ReadingLemmas.{option_or-none}
+use Rattle.proto_fields.proofs.ReturnLemmas.{last_some-append, last_number-others}
 use Rattle.proto_fields.proofs.SpellPieces.{spell-payload}
 
 pub AllByRecursion-append : {X : Type 0} (P : X → Type 0) (xs ys : List X) → AllByRecursion P xs → AllByRecursion P ys → AllByRecursion P (xs ++ ys)
 AllByRecursion-append P [] ys first last = last
 AllByRecursion-append P (x ∷ xs) ys first last = (first.0, AllByRecursion-append P xs ys first.1 last)
+
+-- ---- what is read among fields of other numbers
+
+-- none of the fields has this number
+abbrev pub AreOthers : ℕ → List Field → Type 0
+AreOthers number fields = AllByRecursion (λ field. field.number ≢ number) fields
+
+pub last_number-front : (number : ℕ) (front back : List Field) → AreOthers number back → last_number number (front ++ back) ≡ last_number number front
+last_number-front number front back others = rw (last_some-append (number_in number) front back) (rw (last_number-others number back others) refl)
+
+pub last_number-back : (number : ℕ) (front back : List Field) → AreOthers number front → last_number number (front ++ back) ≡ last_number number back
+last_number-back number front back others =
+    rw (last_some-append (number_in number) front back) (rw (last_number-others number front others) (option_or-none (last_number number back)))
+
+scalar_others : (number other : ℕ) (value : ℤ) (is_zero : Bool) → other ≢ number → AreOthers number (if is_zero then [] else number_fields other (bits_of value))
+scalar_others number other value true different = tt
+scalar_others number other value false different = (different, tt)
+
+pub int_others : (number other : ℕ) (value : ℤ) → other ≢ number → AreOthers number (int_fields other value)
+int_others number other value different = scalar_others number other value (bits_of value == 0) different
+
+pub optional_int_others : (number other : ℕ) (value : Option ℤ) → other ≢ number → AreOthers number (optional_int_fields other value)
+optional_int_others number other None different = tt
+optional_int_others number other (Some value) different = (different, tt)
 
 -- ---- what has a spelling
 
