@@ -2,3 +2,4 @@
 pub mod Outside
 pub mod OutsideLaws
 pub mod Memory
+pub mod Peers

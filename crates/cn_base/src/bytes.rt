@@ -1,4 +1,4 @@
-ghost use Rattle.std.specs.Prelude.{◌≡◌, [], ◌++◌, length, IfOk, OnOk, OnErr};
+ghost use Rattle.std.specs.Prelude.{◌≡◌, ◌≤◌, [], ◌++◌, length, take, drop, reverse, IfOk, OnOk, OnErr};
 
 use crate::{Copied, OutOfMemory};
 use std::alloc::Global;
@@ -31,6 +31,21 @@ impl Bytes {
         }
     }
 
+    /// No bytes, with room for `room` bytes, which can then be appended without taking more memory.
+    pub fn with_room(alloc: Global, room: usize) -> Result<Bytes, OutOfMemory>
+        ensures { IfOk result (λ b. b ≡ []) }
+    {
+        let items = Vec::with_capacity(alloc, room)?;
+        Ok(Bytes { items })
+    }
+
+    /// The bytes of a vector, which are moved and not copied. It takes no memory.
+    pub fn from_vec(items: Vec<u8>) -> Bytes
+        ensures { result ≡ items.items }
+    {
+        Bytes { items }
+    }
+
     /// A copy of these bytes.
     pub fn of(alloc: Global, bytes: &[u8]) -> Result<Bytes, OutOfMemory>
         ensures { IfOk result (λ b. b ≡ bytes.now) }
@@ -55,6 +70,21 @@ impl Bytes {
         self.items.reserve(first.len() + second.len())?;
         self.items.extend_from_slice(first)?;
         self.items.extend_from_slice(second)
+    }
+
+    /// Turns the order of the bytes from the place `start` on. It takes no memory.
+    pub fn reverse_from(&mut self, start: usize)
+        requires { start ≤ length self.old }
+        ensures { self.new ≡ take start self.old ++ reverse (drop start self.old) }
+    {
+        self.items[start..].reverse();
+    }
+
+    /// How many bytes there are.
+    pub fn len(&self) -> usize
+        ensures { result ≡ length self.now }
+    {
+        self.items.len()
     }
 
     /// Lends the bytes.

@@ -5,7 +5,9 @@
 mod bytes;
 mod copied;
 mod memory;
+mod memory_peers;
 mod outside;
+mod peers;
 mod standard;
 mod steady;
 #[cfg(test)]
@@ -15,7 +17,9 @@ mod text;
 pub use bytes::Bytes;
 pub use copied::Copied;
 pub use memory::{MemorySink, MemorySource};
+pub use memory_peers::{CountIds, FixedClock, MemoryAcceptor, PauseList};
 pub use outside::{Failed, Sink, Source, write_all};
+pub use peers::{Acceptor, Clock, Ids, Pauser};
 pub use sqlite_items::{Boxed, Items as List};
 pub use standard::{StdSink, StdSource};
 pub use std::alloc::AllocError as OutOfMemory;

@@ -9,14 +9,14 @@ use std::marker::Model;
 
 /// The calls of a memory form: which are to fail, how many were made and how many failed.
 #[derive(Debug, Drop)]
-struct Calls {
-    failing: List<u64>,
-    made: u64,
-    failed: u64,
+pub(crate) struct Calls {
+    pub(crate) failing: List<u64>,
+    pub(crate) made: u64,
+    pub(crate) failed: u64,
 }
 
 impl Calls {
-    fn new(failing: List<u64>) -> Calls
+    pub(crate) fn new(failing: List<u64>) -> Calls
         ensures failing { result.failing ≡ failing }
         ensures made { result.made ≡ 0 }
         ensures failed { result.failed ≡ 0 }
@@ -29,7 +29,7 @@ impl Calls {
     }
 
     /// Counts one more call, and says whether it is to fail.
-    fn next_fails(&mut self) -> bool
+    pub(crate) fn next_fails(&mut self) -> bool
         ensures fails { IsTrue result ↔ Contains self.old.failing (counted self.old.made) }
         ensures made { self.new ≡ record self.old { made = counted self.old.made } }
     {
@@ -38,7 +38,7 @@ impl Calls {
     }
 
     /// Counts one more failure.
-    fn fail(&mut self) -> Failed
+    pub(crate) fn fail(&mut self) -> Failed
         ensures failed { self.new ≡ record self.old { failed = counted self.old.failed } }
         ensures never_falls { self.old.failed ≤ self.new.failed }
     {

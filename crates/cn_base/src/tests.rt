@@ -133,3 +133,62 @@ fn copies_are_made(rt: HostRuntime) -> Result<(), Fail> {
     assert_eq!(rt; Text::from_string(string).as_str(), "s");
     Ok(())
 }
+
+fn connection(alloc: Global, sent: &[u8]) -> Result<(SteadySource, SteadySink), OutOfMemory> {
+    let input = SteadySource::new(Bytes::of(alloc, sent)?);
+    Ok((input, SteadySink::new(alloc, 4)?))
+}
+
+#[test]
+fn memory_acceptor_gives_its_connections_but_at_its_failing_calls(
+    rt: HostRuntime,
+) -> Result<(), Fail> {
+    let alloc = rt.alloc();
+    let mut pairs = List::new(alloc);
+    pairs.push(connection(alloc, b"a")?)?;
+    pairs.push(connection(alloc, b"b")?)?;
+    let mut acceptor = MemoryAcceptor::new(pairs, numbers(alloc, &[3])?);
+    assert_eq!(rt; acceptor.bind(&Text::of(alloc, "here:1")?), Ok(()));
+    let mut into = [0; 2];
+    for first in [Some(b'a'), None, Some(b'b')] {
+        let read = match acceptor.accept() {
+            Ok(Some((mut input, _))) => input.read(&mut into),
+            Ok(None) => Ok(0),
+            Err(failed) => Err(failed),
+        };
+        assert_eq!(rt; read.ok().map(|_| into[0]), first);
+    }
+    assert!(rt; acceptor.accept().is_ok_and(|pair| pair.is_none()));
+    Ok(())
+}
+
+#[test]
+fn clocks_pauses_and_ids_tell_what_they_gave(rt: HostRuntime) -> Result<(), Fail> {
+    let alloc = rt.alloc();
+    let mut clock = FixedClock::new(7);
+    assert_eq!(rt; clock.now_ms(), 7);
+    assert_eq!(rt; clock.now_ms(), 7);
+    let mut pauses = PauseList::new(alloc, 2)?;
+    for ms in [50, 200, 800] {
+        pauses.pause_ms(ms);
+    }
+    assert_eq!(rt; pauses.pauses(), [50, 200].as_slice(), "one past the room");
+    let mut ids = CountIds::new(u128::MAX);
+    assert_eq!(rt; ids.next_id(), u128::MAX);
+    assert_eq!(rt; ids.next_id(), 0);
+    assert_eq!(rt; ids.next_id(), 1);
+    Ok(())
+}
+
+#[test]
+fn bytes_are_moved_and_turned(rt: HostRuntime) -> Result<(), Fail> {
+    let alloc = rt.alloc();
+    let mut bytes = Bytes::with_room(alloc, 4)?;
+    bytes.append(b"abcd")?;
+    bytes.reverse_from(1);
+    assert_eq!(rt; bytes.as_slice(), b"adcb".as_slice());
+    assert_eq!(rt; bytes.len(), 4);
+    let moved = Bytes::from_vec(Vec::from_slice(alloc, b"ab")?);
+    assert_eq!(rt; moved.as_slice(), b"ab".as_slice());
+    Ok(())
+}

@@ -9,3 +9,5 @@ pub mod ScalarLemmas
 pub mod ReturnLemmas
 pub mod SpellPieces
 pub mod PieceLemmas
+pub mod WriterLemmas
+pub mod SizeLemmas

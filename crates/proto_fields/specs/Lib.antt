@@ -6,3 +6,4 @@ pub mod Faults
 pub mod Readings
 pub mod Laws
 pub mod Spelling
+pub mod Sizes

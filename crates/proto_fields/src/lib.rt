@@ -11,6 +11,7 @@ mod reading;
 mod record;
 mod size;
 mod table;
+mod writer;
 mod writing;
 
 pub use fault::MessageFault;
@@ -28,8 +29,12 @@ pub use reading::{
     text_field, texts, uint32_field,
 };
 pub use record::{Content, Record, records};
-pub use size::{head_size, int_size, optional_int32_size, optional_int64_size};
+pub use size::{
+    bool_size, head_size, int_size, message_size, optional_bool_size, optional_bytes_size,
+    optional_int32_size, optional_int64_size, optional_text_size, payload_size, text_size,
+};
 pub use table::{is_member, payload_of};
+pub use writer::MessageWriter;
 pub use writing::{
     put_bool, put_int32, put_int64, put_optional_bool, put_optional_bytes, put_optional_int32,
     put_optional_int64, put_optional_text, put_payload, put_text,

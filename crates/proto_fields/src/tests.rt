@@ -406,3 +406,64 @@ fn faults_are_printed(rt: HostRuntime) -> Result<(), Fail> {
     }
     Ok(())
 }
+
+#[test]
+fn messages_are_written_from_their_last_field(rt: HostRuntime) -> Result<(), Fail> {
+    let alloc = rt.alloc();
+    let mut writer = MessageWriter::with_room(alloc, 32)?;
+    writer.put_bool(6, true)?;
+    writer.put_bool(5, false)?;
+    writer.put_optional_int32(4, None)?;
+    writer.put_int64(3, 1)?;
+    writer.put_int64(2, 3)?;
+    writer.put_optional_int64(1, Some(0))?;
+    let payload = writer.len();
+    writer.put_head(15, payload)?;
+    writer.put_text(2, "ab")?;
+    writer.put_text(1, "")?;
+    assert_eq!(rt;
+        writer.finish().as_slice(),
+        b"\x12\x02ab\x7a\x08\x08\x00\x10\x03\x18\x01\x30\x01".as_slice()
+    );
+    let mut other = MessageWriter::new(alloc);
+    other.put_int32(3, -1)?;
+    other.put_optional_bool(2, Some(false))?;
+    other.put_payload(1, b"")?;
+    assert_eq!(rt;
+        other.finish().as_slice(),
+        b"\x0a\x00\x10\x00\x18\xff\xff\xff\xff\xff\xff\xff\xff\xff\x01".as_slice()
+    );
+    Ok(())
+}
+
+#[test]
+fn optional_payloads_are_written_where_present(rt: HostRuntime) -> Result<(), Fail> {
+    let alloc = rt.alloc();
+    let mut writer = MessageWriter::new(alloc);
+    writer.put_optional_text(3, &None)?;
+    writer.put_optional_text(2, &Some(Text::new(alloc)))?;
+    writer.put_optional_bytes(1, &Some(Bytes::of(alloc, b"\x07")?))?;
+    assert_eq!(rt;
+        writer.finish().as_slice(),
+        b"\x0a\x01\x07\x12\x00".as_slice()
+    );
+    Ok(())
+}
+
+#[test]
+fn sizes_are_those_of_the_spelling(rt: HostRuntime) -> Result<(), Fail> {
+    let alloc = rt.alloc();
+    assert_eq!(rt; bool_size(6, true), 2);
+    assert_eq!(rt; bool_size(6, false), 0);
+    assert_eq!(rt; optional_bool_size(6, Some(false)), 2);
+    assert_eq!(rt; optional_bool_size(6, None), 0);
+    assert_eq!(rt; text_size(2, "ab"), 4);
+    assert_eq!(rt; text_size(2, ""), 0);
+    assert_eq!(rt; optional_text_size(2, &Some(Text::new(alloc))), 2);
+    assert_eq!(rt; payload_size(1, 128), 131);
+    assert_eq!(rt; message_size(1, 127), 129);
+    assert_eq!(rt; message_size(1, u64::MAX - 1), u64::MAX, "the last number");
+    let bytes = Some(Bytes::of(alloc, b"abc")?);
+    assert_eq!(rt; optional_bytes_size(16, &bytes), 6);
+    Ok(())
+}
