@@ -1,7 +1,7 @@
 ghost use Rattle.std.specs.Prelude.{◌≡◌, ◌%◌, None, Some, length, IsNone, IsSome, OnOk, OnErr, IfOk};
 ghost use Rattle.flat_tables.specs.Layout.{CanBePut, layout};
 
-use crate::{FlatObject, bytes, objects};
+use crate::{FlatObject, bytes, checks, objects};
 use cn_base::{Bytes, OutOfMemory};
 use std::alloc::Global;
 use std::marker::Model;
@@ -39,7 +39,7 @@ impl Builder {
         ensures err { OnErr result (self.new ≡ self.old) }
     {
         let out = write_layout(self.alloc, object)?;
-        self.bytes = Some(Bytes::of(self.alloc, out.as_slice())?);
+        self.bytes = Some(Bytes::from_vec(out));
         Ok(())
     }
 
@@ -53,13 +53,14 @@ impl Builder {
     }
 }
 
-/// The whole buffer: the offset of the object's table, four zeros, and the object.
+/// The whole buffer: the offset of the object's table, four zeros, and the object. Its room is sized before, so nothing grows; the four bytes
+/// of an offset are zeros until the object that it names is written.
 fn write_layout(alloc: Global, object: &FlatObject) -> Result<Vec<u8>, OutOfMemory>
     requires { CanBePut object.now }
     ensures bytes { IfOk result (λ out. out.items ≡ layout object.now) }
     ensures aligned { OnOk result (length (layout object.now) % 8 ≡ 0) }
 {
-    let mut out = Vec::new(alloc);
+    let mut out = Vec::with_capacity(alloc, 8 + checks::size(object))?;
     bytes::write_zeros(&mut out, 8)?;
     objects::write_named(&mut out, object, 0)?;
     Ok(out)

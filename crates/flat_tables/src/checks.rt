@@ -69,7 +69,7 @@ fn tables_are_buildable(tables: &[FlatObject]) -> bool
 
 /// How many bytes an object has with all that it names, or `LIMIT` where there are more.
 #[cycle(sizes)]
-fn size(object: &FlatObject) -> usize
+pub(crate) fn size(object: &FlatObject) -> usize
     requires { IsBuildable object.now }
     ensures { result ≡ min (length (block object.now).bytes) (2 ^ 31) }
 {
