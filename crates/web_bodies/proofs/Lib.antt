@@ -1,0 +1,12 @@
+pub mod Runs
+pub mod Ahead
+pub mod Framing
+pub mod Leads
+pub mod LineRuns
+pub mod TrailerEnds
+pub mod TrailerRuns
+pub mod ChunkRuns
+pub mod Complete
+pub mod Growth
+pub mod Read
+pub mod Pieces

@@ -1,0 +1,5 @@
+use Rattle.web_bodies.proofs.Read as read
+use Rattle.web_bodies.proofs.laws.bodies_are_read.Goals as goal
+
+pub returns : goal.returns
+returns c = read.bodies_are_read
