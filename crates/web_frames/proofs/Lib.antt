@@ -1,0 +1,14 @@
+pub mod LineLemmas
+pub mod ValueLemmas
+pub mod TrailerLemmas
+pub mod WritingLemmas
+pub mod WrittenLemmas
+pub mod MachineLemmas
+pub mod SettledLemmas
+pub mod ReadingLemmas
+pub mod FrameLemmas
+pub mod FaultLemmas
+pub mod ReadsLemmas
+pub mod LawLemmas
+pub mod ReaderLemmas
+pub mod CallLemmas
