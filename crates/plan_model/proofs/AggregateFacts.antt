@@ -11,6 +11,7 @@ use Rattle.cn_types.specs.declared.value.Value.{Value}
 use Rattle.cn_types.specs.declared.value.Value.TheVariants.{Null}
 use Rattle.cn_types.specs.Order.{value_cmp}
 use Rattle.cn_types.specs.OrderLaws.{ValuesAreOrdered}
+use Rattle.cn_types.proofs.OrderFacts.{values_ordered}
 use Rattle.plan_model.specs.Aggregates.{present}
 use Rattle.plan_model.specs.AggregateLaws.{TotalsAddUp, IsOneOf, IsAtMost, IsAtLeast, ExtremesAreReached}
 
@@ -18,7 +19,7 @@ pub total-append : TotalsAddUp
 total-append [] ys = omega (arith, ints)
 total-append (x ∷ xs) ys = omega (arith, ints, total-append xs ys)
 
-is_gt-reverse : (o : Ordering) → is_gt (ordering_reverse o) ≡ is_lt o
+pub is_gt-reverse : (o : Ordering) → is_gt (ordering_reverse o) ≡ is_lt o
 is_gt-reverse Less = refl
 is_gt-reverse Equal = refl
 is_gt-reverse Greater = refl
@@ -133,3 +134,6 @@ module _ (o : ValuesAreOrdered) where
     greatest_bounds = λ values. greatest_all (present values);
     greatest_reached = λ values. greatest_one (present values);
   }
+
+pub extremes : ExtremesAreReached
+extremes = extremes_reached values_ordered

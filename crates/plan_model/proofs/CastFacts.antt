@@ -41,11 +41,11 @@ together : (a b : Bool) → a ≡ true → b ≡ true → (a && b) ≡ true
 together true b p q = q
 together false b p q = cc
 
-true_is_T : (b : Bool) → b ≡ true → T b
+pub true_is_T : (b : Bool) → b ≡ true → T b
 true_is_T true e = tt
 true_is_T false e = cc
 
-T_is_true : (b : Bool) → T b → b ≡ true
+pub T_is_true : (b : Bool) → T b → b ≡ true
 T_is_true true t = refl
 T_is_true false t = absurd t
 

@@ -41,7 +41,7 @@ by_class a b e present = absurd (omega (arith, e))
 comparison_in_type : (kind : DataType) (a b : Value) → HasType kind a → HasType kind b → a ≢ Null → b ≢ Null → comparison a b ≡ Some (value_cmp a b)
 comparison_in_type kind a b p q m n = by_class a b (class_of-kind kind a p m ∙ sym (class_of-kind kind b q n)) m
 
-is_eq-Equal : (o : Ordering) → is_eq o ≡ true → o ≡ Equal
+pub is_eq-Equal : (o : Ordering) → is_eq o ≡ true → o ≡ Equal
 is_eq-Equal Less e = cc
 is_eq-Equal Equal e = refl
 is_eq-Equal Greater e = cc

@@ -1,15 +1,34 @@
--- The value of an expression over a row, by Spark SQL's built-in functions, and of an aggregate over the rows of a group.
+-- What resolved plans mean: the value of an expression over a row, by Spark SQL's built-in functions, and of an aggregate over the rows of a
+-- group; which plans are well formed; and which outcomes a plan allows.
 pub mod AggregateLaws
 pub mod Aggregates
+pub mod Allows
 pub mod Arithmetic
 pub mod Casts
+pub mod Chosen
 pub mod Comparisons
 pub mod Conditionals
+pub mod Counts
 pub mod DateFunctions
+pub mod FunctionLaws
+pub mod FunctionTypes
 pub mod Functions
+pub mod Groups
+pub mod Joins
+pub mod KindLaws
 pub mod LogicLaws
+pub mod NodeTypes
+pub mod OutcomeLaws
+pub mod Outcomes
+pub mod Ranges
+pub mod RelationLaws
+pub mod Selections
+pub mod SetOperations
+pub mod Sorting
 pub mod Texts
 pub mod Truth
 pub mod Val
 pub mod ValueLaws
+pub mod WellFormed
+pub mod WorkedPlans
 pub mod WorkedRows

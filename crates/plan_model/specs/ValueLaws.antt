@@ -3,15 +3,17 @@ use Rattle.std.specs.Prelude.{◌≡◌, ◌↔◌, ℕ, ℤ, IsTrue, List, ◌+
 use Rattle.cn_types.specs.declared.row.Row.{Row}
 use Rattle.cn_types.specs.declared.value.DataType.{DataType}
 use Rattle.cn_types.specs.declared.value.Value.{Value}
-use Rattle.cn_types.specs.Fit.{HasType, HasDateInRange, IsDay}
+use Rattle.cn_types.specs.Fit.{HasType, HasDateInRange, IsDay, FitsTypes}
 use Rattle.plan_model.specs.declared.function.Function.{Function}
 use Rattle.plan_model.specs.declared.expression.TypedExpr.{TypedExpr}
 use Rattle.plan_model.specs.declared.expression.TypedExpr.TheVariants.{Column, Literal, Call, Cast}
 use Rattle.plan_model.specs.Casts.{cast_to}
 use Rattle.plan_model.specs.DateFunctions.{is_day}
 use Rattle.plan_model.specs.Functions.{call}
+use Rattle.plan_model.specs.NodeTypes.{kind_of}
 use Rattle.plan_model.specs.Texts.{has_part}
 use Rattle.plan_model.specs.Val.{val, value_at}
+use Rattle.plan_model.specs.WellFormed.{IsOver}
 
 -- the value of each form of expression, by the values of its children
 pub record ValuesOfForms : Type 0 where
@@ -32,3 +34,7 @@ DaysAreTested = (day : ℤ) → IsTrue (is_day day) ↔ IsDay day
 -- a text has a part exactly where it is something, then the part, then something
 abbrev pub PartsAreWithin : Type 0
 PartsAreWithin = (text part : List ℕ) → IsTrue (has_part text part) ↔ ((before : List ℕ) × (after : List ℕ) × (text ≡ before ++ (part ++ after)))
+
+-- the value of a well-formed expression over a row that fits has the expression's type
+abbrev pub ValuesHaveTheirType : Type 0
+ValuesHaveTheirType = (columns : List DataType) (expr : TypedExpr) (row : Row) → IsOver columns expr → FitsTypes columns row → HasType (kind_of expr) (val expr row)

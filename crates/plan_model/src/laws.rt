@@ -1,6 +1,7 @@
 ghost use Rattle.plan_model.specs.LogicLaws.{TruthTables, TruthCommutes, DeMorgan, EqualityTellsSameness, NullSafeEqualityTellsSameness};
-ghost use Rattle.plan_model.specs.AggregateLaws.{NoValues, CountsAreNeverNull, TotalsAddUp, ExtremesAreReached};
-ghost use Rattle.plan_model.specs.ValueLaws.{ValuesOfForms, CastsGiveTheType, DaysAreTested, PartsAreWithin};
+ghost use Rattle.plan_model.specs.AggregateLaws.{NoValues, CountsAreNeverNull, TotalsAddUp, ExtremesAreReached, CallsHaveTheirType, CallsIgnoreOrder, DistinctValuesAreCounted};
+ghost use Rattle.plan_model.specs.FunctionLaws.{NumbersWrap, TextsStartAndEnd, DatePartsAreOfTheCalendar};
+ghost use Rattle.plan_model.specs.ValueLaws.{ValuesOfForms, CastsGiveTheType, DaysAreTested, PartsAreWithin, ValuesHaveTheirType};
 ghost use Rattle.plan_model.specs.WorkedRows.{WorkedNumbers, WorkedTruths, WorkedTextsAndDates, WorkedCasts, WorkedAggregates};
 
 use cn_types::{equal_values_are_the_same, values_are_ordered};
@@ -74,6 +75,41 @@ pub fn days_are_tested()
 /// Law: `contains` is true exactly where the second text is a part of the first.
 pub fn parts_are_within()
     ensures { PartsAreWithin }
+{}
+
+/// Law: the value of a well-formed expression over a row that fits has the expression's type.
+pub fn values_have_their_type()
+    ensures { ValuesHaveTheirType }
+{}
+
+/// Law: the value of a well-formed aggregate call over rows that fit has the call's type.
+pub fn calls_have_their_type()
+    ensures { CallsHaveTheirType }
+{}
+
+/// Law: the value of an aggregate call does not depend on the order of the rows.
+pub fn calls_ignore_order()
+    ensures { CallsIgnoreOrder }
+{}
+
+/// Law: a distinct count is the length of each list that has each value that is not null once, and no other; and there is such a list.
+pub fn distinct_values_are_counted()
+    ensures { DistinctValuesAreCounted }
+{}
+
+/// Law: a number wraps to the one number in its type's range that leaves the same rest by 2^32, or by 2^64.
+pub fn numbers_wrap()
+    ensures { NumbersWrap }
+{}
+
+/// Law: `startswith` and `endswith` are true exactly where the second text is a beginning, or an end, of the first.
+pub fn texts_start_and_end()
+    ensures { TextsStartAndEnd }
+{}
+
+/// Law: `year`, `month` and `dayofmonth` of a date in range are those of the calendar's date with its day number.
+pub fn date_parts_are_of_the_calendar()
+    ensures { DatePartsAreOfTheCalendar }
 {}
 
 /// Law: values of Spark SQL's functions, casts and aggregates, written out.

@@ -1,23 +1,34 @@
-//! Resolved plans and what they mean: the value of an expression, and of an aggregate over a list of values.
+//! Resolved plans and what they mean: the value of an expression and of an aggregate, which plans are well formed, and which outcomes a
+//! plan allows.
 #![tactic(auto)]
 
+mod copies;
 mod expression;
 mod function;
 mod laws;
 mod node;
 mod outcome;
 mod plan;
+mod plan_laws;
 #[cfg(test)]
 mod tests;
 
 pub use expression::TypedExpr;
 pub use function::Function;
 pub use laws::{
-    casts_give_the_type, counts_are_never_null, days_are_tested, de_morgan_holds,
+    calls_have_their_type, calls_ignore_order, casts_give_the_type, counts_are_never_null,
+    date_parts_are_of_the_calendar, days_are_tested, de_morgan_holds, distinct_values_are_counted,
     equality_tells_sameness, extremes_are_reached, no_values_sum_to_null,
-    null_safe_equality_tells_sameness, parts_are_within, totals_add_up, truth_commutes,
-    truth_tables_are_three_valued, values_follow_the_form, worked_rows_hold,
+    null_safe_equality_tells_sameness, numbers_wrap, parts_are_within, texts_start_and_end,
+    totals_add_up, truth_commutes, truth_tables_are_three_valued, values_follow_the_form,
+    values_have_their_type, worked_rows_hold,
 };
 pub use node::{AggregateCall, JoinKind, Node, SetKind, SortKey};
 pub use outcome::Outcome;
 pub use plan::{Resolved, Save};
+pub use plan_laws::{
+    determined_outcomes_are_alike, distinct_rows_are_a_set, joins_hold_their_rows, joins_match,
+    one_row_without_keys, permutations_have_the_same_counts, plans_have_outcomes,
+    relations_follow_their_kind, rows_are_within_limits, rows_fit, set_operations_count,
+    sorted_rows_stay, sorts_without_ties_are_unique, worked_plans_hold,
+};
