@@ -1,0 +1,12 @@
+pub mod Levels
+pub mod TypeCases
+pub mod ExprCases
+pub mod Written
+pub mod Measured
+pub mod Pieces
+pub mod TypeBack
+pub mod LeafBack
+pub mod ExprBack
+pub mod Agreement
+pub mod SameTypes
+pub mod SameExprs
