@@ -1,6 +1,6 @@
 -- The messages that are written are read as such.
 use Rattle.std.proofs.Common.{◌≡◌, ℕ, zero, suc, ◌+◌, ◌*◌, Bool, true, false, List, [], ◌∷◌, length, map, Option, Some, Result, Ok, arith, refl, ap, ◌∙◌, subst, inr}
-use Rattle.std.specs.Prelude.{pos, slice_get, IsTrue, IsUtf8, ◌↔◌, if◌then◌else◌}
+use Rattle.std.specs.Prelude.{pos, slice_get, IsTrue, IsUtf8, ◌≢◌, if◌then◌else◌}
 use Rattle.std.specs.List.{AllByRecursion}
 use Rattle.cn_types.specs.declared.value.DataType.{DataType}
 use Rattle.cn_types.specs.declared.value.DataType.TheVariants as K
@@ -17,7 +17,7 @@ use Rattle.flat_tables.specs.Views.{TableView, VectorView}
 use Rattle.flat_tables.specs.Reading.{◌>>=◌, at_field, field_at, named_table, named_vector, named_text, u8_field}
 use Rattle.flat_tables.specs.Found.{Found, FoundTo, SlotsRead, TablesRead, PairsRead}
 use Rattle.arrow_ipc.specs.Messages.{type_number, type_table, field_table, schema_table}
-use Rattle.arrow_ipc.specs.Holds.{or_absent, IsTrueByte, IsOfType, FieldHolds, SchemaHolds}
+use Rattle.arrow_ipc.specs.Holds.{or_absent, IsTrueByte, Says, IsOfType, FieldHolds, SchemaHolds}
 
 -- ---- what is found, by kind of object
 
@@ -39,9 +39,6 @@ field_read {A} read r place x e h = ap (at_field read) e ∙ ap (λ (found : Res
 
 -- ---- a field of the schema
 
-one_result : (x y : ℕ) (r : Result ℕ FlatFault) → r ≡ Ok x → r ≡ Ok y → x ≡ y
-one_result x y r e f = cc
-
 one_is_not_zero : (n : ℕ) → n ≡ 1 → n ≡ 0 → ⊥
 one_is_not_zero n a b = omega arith
 
@@ -52,9 +49,9 @@ true_byte byte e = (1, ap (or_absent 0) e, one_is_not_zero 1 refl)
 no_truth : (A : Type 0) → IsTrue false → A
 no_truth A h = absurd (cc)
 
-flag : (b : Bool) (byte : Result (Option ℕ) FlatFault) → byte ≡ Ok (Some (if b then 1 else 0)) → IsTrue b ↔ IsTrueByte byte
-flag true byte e = (λ h. true_byte byte e, λ h. refl)
-flag false byte e = (no_truth (IsTrueByte byte), λ h. absurd (h.2 (one_result h.0 0 (or_absent 0 byte) h.1 (ap (or_absent 0) e))))
+flag : (b : Bool) (byte : Result (Option ℕ) FlatFault) → byte ≡ Ok (Some (if b then 1 else 0)) → Says b byte
+flag true byte e = (1, ap (or_absent 0) e, (λ h. one_is_not_zero 1 refl, λ h. refl))
+flag false byte e = (0, ap (or_absent 0) e, (no_truth (0 ≢ 0), λ h. absurd (h refl)))
 
 abbrev pub type_slots : DataType → List (FlatSlot FlatObject)
 type_slots K.Boolean = []

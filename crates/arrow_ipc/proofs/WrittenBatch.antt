@@ -2,7 +2,7 @@
 use Rattle.std.proofs.Common.{◌≡◌, ℕ, zero, suc, ◌+◌, ◌^◌, ◌<◌, ◌≤◌, not, List, [], ◌∷◌, ◌++◌, length, map, Some, Ok, arith, refl, ap, ◌∙◌, sym, subst, inr, length-append}
 use Rattle.std.specs.Prelude.{pos, slice_get, unwrap_or, FitsSigned}
 use Rattle.std.specs.List.{All, AllByRecursion, flat_map}
-use Rattle.std.specs.Int.{w64}
+use Rattle.std.specs.Int.{w32, w64, to_le_bytes}
 use Rattle.std.proofs.lemmas.Int.{ints}
 use Rattle.std.proofs.lemmas.List.{append_assoc, append-nil}
 use Rattle.std.proofs.lemmas.List.Sums.{count_by-le-length}
@@ -22,18 +22,18 @@ use Rattle.flat_tables.specs.declared.object.FlatSlot.TheVariants.{I64, Object}
 use Rattle.flat_tables.specs.declared.object.FlatPair.{FlatPair}
 use Rattle.flat_tables.specs.Views.{TableView}
 use Rattle.flat_tables.specs.Reading.{field_at, named_vector, vector_field}
-use Rattle.flat_tables.specs.Layout.{OnNamed}
+use Rattle.flat_tables.specs.Layout.{OnNamed, zeros}
 use Rattle.flat_tables.specs.Found.{FoundTo, SlotsRead, NumberFits, HasFittingNumbers, ReadsBack}
 use Rattle.flat_tables.specs.ObjectSizes.{SizesAddUp}
 use Rattle.flat_tables.specs.ObjectLaws.{HasFittingNumbers-Table, HasFittingNumbers-Pairs}
 use Rattle.arrow_ipc.specs.Columns.{cells, has_value, null_count, text_of, bitmap, truth, bytes_of_4, bytes_of_8, offsets, validity, column_buffers, value_buffers, buffers_from, body_of, spans_from, node_of, nodes_from}
 use Rattle.arrow_ipc.specs.Messages.{batch_table, message_table, schema_message, batch_message}
-use Rattle.arrow_ipc.specs.Stream.{end_mark, message_bytes, stream_of, CanBeWritten}
-use Rattle.arrow_ipc.specs.Holds.{or_absent, PairIs, BufferAt, BuffersAt, AreLongEnough, CellStands, ColumnsHold, BatchHolds, BatchesHold, IsValue, AreInMemory, WrittenStreamsHold, buffer_count}
+use Rattle.arrow_ipc.specs.Stream.{mark, end_mark, message_bytes, stream_of, CanBeWritten}
+use Rattle.arrow_ipc.specs.Holds.{or_absent, PairIs, BufferAt, BuffersAt, AreLongEnough, CellStands, ColumnsHold, BatchHolds, EndMarkAt, IsValue, AreInMemory, WrittenStreamsHold, buffer_count}
 use Rattle.arrow_ipc.specs.Holds.{over, batch}
 use Rattle.arrow_ipc.proofs.Sizes.{batch_can_be_put, texts_below}
 use Rattle.flat_tables.proofs.Standing.{Stands, first, second, within, taken}
-use Rattle.arrow_ipc.proofs.Standing.{whole}
+use Rattle.arrow_ipc.proofs.Standing.{whole, n32_there}
 use Rattle.arrow_ipc.proofs.CellsStand.{present, missing, validity_long, bits_long, truth_stands, length-4s, length-8s, integer_stands, date_stands, long_stands, offsets_rise, text_stands}
 use Rattle.arrow_ipc.proofs.FoundMessages.{found_pairs, field_read, get-map}
 use Rattle.arrow_ipc.proofs.FoundBatch.{placed, pair_is}
@@ -218,6 +218,8 @@ batch_holds schema rows t can mem r =
     record {
       count = ap (or_absent (pos 0)) (r.each 0 (I64 (pos (length rows))) refl);
       plain = r.beyond 3 (omega arith);
+      nodes = (Some node_vector.0, node_is);
+      spans = (Some span_vector.0, span_is);
       widths = All-from_recursion (λ (row : Row). length row.0 ≡ length schema.0) rows (widths schema rows (recursion_from_All (Fits schema) rows can.fits));
       columns = columns_hold t body 0 0 schema.0 rows mem.count
           (columns_fit schema rows can mem 0 schema.0 (λ i f e. let here : i ≡ 0 + i = omega arith in subst (λ (n : ℕ). slice_get schema.0 n ≡ Some f) here e))
@@ -236,6 +238,17 @@ batch_holds schema rows t can mem r =
     }
 
 -- ---- the stream
+
+end_mark_stands : (bytes : List ℕ) (at : ℕ) → Stands bytes at end_mark → EndMarkAt bytes at
+end_mark_stands bytes at s =
+    let small : 0 < 2 ^ 31 = omega arith in
+    record {
+      mark_is = taken bytes at 4 mark refl (first bytes at mark (zeros 4) s);
+      size_is = n32_there bytes (at + 4) 0 small (subst (Stands bytes (at + 4)) zero_bytes (second bytes at mark (zeros 4) s));
+    }
+  where
+    zero_bytes : zeros 4 ≡ to_le_bytes w32 0
+    zero_bytes = refl
 
 pub written_streams_hold : SizesAddUp → ReadsBack → WrittenStreamsHold
 unfolding stream_of batch_message
@@ -261,7 +274,6 @@ written_streams_hold sizes reads schema rows can mem =
     record {
       next = at;
       begins = begins_with_schema sizes reads schema rows can mem.names;
-      batches = subst (BatchesHold stream schema at) (append-nil rows)
-          (batch at (at + length two + length body) read.header body rows [] read.message (batch_holds schema rows read.header can mem read.slots_read)
-          (over (at + length two + length body) (inr (taken stream (at + length two + length body) 8 end_mark refl over_there))));
+      batches_are = batch at (at + length two + length body) read.header body rows [] read.message (batch_holds schema rows read.header can mem read.slots_read)
+          (over (at + length two + length body) (inr (end_mark_stands stream (at + length two + length body) over_there)));
     }

@@ -1,6 +1,6 @@
 -- What a stream holds (Arrow Columnar Format, "IPC Streaming Format", "Encapsulated message format", "Physical Memory Layout"; Message.fbs
 -- and Schema.fbs), one cell at a time.
-use Rattle.std.specs.Prelude.{◌≡◌, ◌≢◌, ◌↔◌, ◌⊎◌, ℕ, ◌+◌, ◌-◌, ◌*◌, ◌/◌, ◌%◌, ◌^◌, ◌<◌, ◌≤◌, ℤ, pos, List, [], ◌∷◌, ◌++◌, length, take, drop, slice_index, slice_get, Option, None, Some, Result, Ok, Err, All, IsTrue, IsUtf8, FitsSigned}
+use Rattle.std.specs.Prelude.{◌≡◌, ◌≢◌, ◌↔◌, ◌⊎◌, ℕ, ◌+◌, ◌-◌, ◌*◌, ◌/◌, ◌%◌, ◌^◌, ◌<◌, ◌≤◌, ℤ, pos, List, [], ◌∷◌, length, take, drop, slice_index, slice_get, Option, None, Some, Result, Ok, Err, Bool, All, IsTrue, IsUtf8, FitsSigned}
 use Rattle.std.specs.Int.{w32, w64, bit_at}
 use Rattle.cn_types.specs.Fit.{IsDay}
 use Rattle.cn_types.specs.declared.value.Value.{Value}
@@ -14,7 +14,7 @@ use Rattle.flat_tables.specs.declared.fault.FlatFault.{FlatFault}
 use Rattle.flat_tables.specs.Views.{TableView, VectorView}
 use Rattle.flat_tables.specs.Reading.{i32_at, i64_at, field_at, named_table, u8_field, i16_field, i32_field, i64_field, table_field, text_field, vector_field, item_bytes, item_table}
 use Rattle.arrow_ipc.specs.Columns.{cells, null_count, body_of, buffers_from}
-use Rattle.arrow_ipc.specs.Stream.{mark, end_mark, stream_of, CanBeWritten}
+use Rattle.arrow_ipc.specs.Stream.{mark, stream_of, CanBeWritten}
 
 -- what a field is, where an absent one is this
 abbrev pub or_absent : {A : Type 0} → A → Result (Option A) FlatFault → Result A FlatFault
@@ -44,9 +44,14 @@ pub record MessageAt (bytes : List ℕ) (at number : ℕ) (header : TableView) (
   pub next_is : next ≡ at + 8 + size + length body
   pub within : next ≤ length bytes
 
--- the stream ends: with its bytes, or with a mark and a size of 0
+-- the end mark stands at a place: a mark and a size of 0
+pub record EndMarkAt (bytes : List ℕ) (at : ℕ) : Type 0 where
+  pub mark_is : take 4 (drop at bytes) ≡ mark
+  pub size_is : i32_at bytes (at + 4) ≡ Ok (pos 0)
+
+-- the stream ends: with its bytes, or with an end mark. Bytes after that say nothing
 abbrev pub IsEnd : List ℕ → ℕ → Type 0
-IsEnd bytes at = (at ≡ length bytes) ⊎ (take 8 (drop at bytes) ≡ end_mark)
+IsEnd bytes at = (at ≡ length bytes) ⊎ EndMarkAt bytes at
 
 -- ---- the schema
 
@@ -77,12 +82,16 @@ IsOfType K.Date number table = IsDayDate number table
 abbrev pub HasNoItem : Result (Option VectorView) FlatFault → Type 0
 HasNoItem vector = (vector ≡ Ok None) ⊎ ((v : VectorView) × (vector ≡ Ok (Some v)) × (v.count ≡ 0))
 
+-- a truth that a byte says: it is true where the byte isn't 0
+abbrev pub Says : Bool → Result (Option ℕ) FlatFault → Type 0
+Says truth byte = (n : ℕ) × (or_absent 0 byte ≡ Ok n) × (IsTrue truth ↔ (n ≢ 0))
+
 pub record FieldHolds (table : TableView) (field : Field) : Type 0 where
   pub number : ℕ
   pub type_table : TableView
   pub name_is : or_absent [] (text_field table 0) ≡ Ok field.name
   pub name_is_text : IsUtf8 field.name
-  pub nullable : IsTrue field.nullable ↔ IsTrueByte (u8_field table 1)
+  pub nullable : Says field.nullable (u8_field table 1)
   pub number_is : or_absent 0 (u8_field table 2) ≡ Ok number
   pub type_is : table_field table 3 ≡ Ok (Some type_table)
   pub kind : IsOfType field.kind number type_table
@@ -185,20 +194,26 @@ ColumnsHold batch body column first [] rows = Unit {0}
 ColumnsHold batch body column first (field ∷ fields) rows =
     ColumnHolds batch body column first field.kind (cells column rows) × ColumnsHold batch body (column + 1) (first + 1 + buffer_count field.kind) fields rows
 
+-- a vector that the table has or hasn't; where it has one, all its items lie in the buffer
+abbrev pub IsWhole : Result (Option VectorView) FlatFault → Type 0
+IsWhole vector = (v : Option VectorView) × (vector ≡ Ok v)
+
 -- a batch has these rows, and isn't compressed
 pub record BatchHolds (batch : TableView) (body : List ℕ) (schema : Schema) (rows : List Row) : Type 0 where
   pub count : or_absent (pos 0) (i64_field batch 0) ≡ Ok (pos (length rows))
   pub plain : field_at batch.buffer batch.place 3 ≡ Ok None
+  pub nodes : IsWhole (vector_field batch 1 16)
+  pub spans : IsWhole (vector_field batch 2 16)
   pub widths : All (λ row. length row.0 ≡ length schema.0) rows
   pub columns : ColumnsHold batch body 0 0 schema.0 rows
 
 -- ---- the stream
 
--- the batches from a place on have these rows, one batch after another
-pub data BatchesHold (bytes : List ℕ) (schema : Schema) : ℕ → List Row → Type 0 where
+-- the batches from a place on, up to the stream's end, have these rows each
+pub data BatchesHold (bytes : List ℕ) (schema : Schema) : ℕ → List (List Row) → Type 0 where
   over : (at : ℕ) → IsEnd bytes at → BatchesHold bytes schema at []
-  batch : (at next : ℕ) (header : TableView) (body : List ℕ) (rows more : List Row) → MessageAt bytes at 3 header body next → BatchHolds header body schema rows
-      → BatchesHold bytes schema next more → BatchesHold bytes schema at (rows ++ more)
+  batch : (at next : ℕ) (header : TableView) (body : List ℕ) (rows : List Row) (more : List (List Row)) → MessageAt bytes at 3 header body next
+      → BatchHolds header body schema rows → BatchesHold bytes schema next more → BatchesHold bytes schema at (rows ∷ more)
 
 -- the stream's first message is the schema, and the next one stands at `next`
 pub record BeginsWithSchema (bytes : List ℕ) (schema : Schema) (next : ℕ) : Type 0 where
@@ -207,11 +222,12 @@ pub record BeginsWithSchema (bytes : List ℕ) (schema : Schema) (next : ℕ) : 
   pub message : MessageAt bytes 0 1 header body next
   pub schema_is : SchemaHolds header schema
 
--- The bytes are a stream of this schema and these rows: first comes the schema, then come batches.
-pub record Holds (bytes : List ℕ) (schema : Schema) (rows : List Row) : Type 0 where
+-- The bytes are a stream of this schema and these batches, each with its rows: first comes the schema, then come the batches, and then the
+-- stream ends.
+pub record Holds (bytes : List ℕ) (schema : Schema) (batches : List (List Row)) : Type 0 where
   pub next : ℕ
   pub begins : BeginsWithSchema bytes schema next
-  pub batches : BatchesHold bytes schema next rows
+  pub batches_are : BatchesHold bytes schema next batches
 
 -- ---- the law
 
@@ -231,6 +247,6 @@ pub record AreInMemory (schema : Schema) (rows : List Row) : Type 0 where
   pub count : length rows < 2 ^ 63
   pub body : length (body_of (buffers_from 0 schema.0 rows)) < 2 ^ 63
 
--- what is written holds the schema and the rows
+-- what is written holds the schema and one batch with the rows
 abbrev pub WrittenStreamsHold : Type 0
-WrittenStreamsHold = (schema : Schema) (rows : List Row) → CanBeWritten schema rows → AreInMemory schema rows → Holds (stream_of schema rows) schema rows
+WrittenStreamsHold = (schema : Schema) (rows : List Row) → CanBeWritten schema rows → AreInMemory schema rows → Holds (stream_of schema rows) schema (rows ∷ [])

@@ -1,0 +1,8 @@
+-- the fields so far, and then the others
+use Rattle.std.proofs.Common.{◌≡◌, ◌-◌}
+use Rattle.arrow_read.specs.Tables.{fields_from}
+use Rattle.arrow_read.proofs.FieldLoop.{behind}
+use Rattle.arrow_read.proofs.schema.fields_in.Given as goal
+
+abbrev pub invariant-loop-place : goal.invariant-loop-place
+invariant-loop-place l = behind l.found (fields_from l.fields l.place (l.fields.count - l.place)) ≡ fields_from l.fields 0 l.fields.count

@@ -1,0 +1,106 @@
+ghost use Rattle.std.specs.Prelude.{◌≡◌, ◌≢◌, ◌+◌, ◌<◌, ◌≤◌, length, Ok, Err, IfOk, IfErr, IfSome};
+ghost use Rattle.arrow_read.specs.Reading.{if_plain as said_plain, columns_in as said_columns, batch_at as said_batch, next_batch as said_next};
+
+use crate::ArrowFault;
+use crate::batch::{BatchTables, later_header};
+use crate::column::{Column, buffer_count, column_in};
+use crate::head::head_in;
+use crate::message::{body_at, metadata_at, metadata_size};
+use cn_base::List;
+use cn_types::{Field, Schema};
+use std::alloc::Global;
+
+/// A batch of a stream: its columns, how many rows they have, and where the next message stands.
+#[derive(Debug, Drop)]
+pub(crate) struct Part<'a> {
+    pub(crate) columns: List<Column<'a>>,
+    pub(crate) count: usize,
+    pub(crate) next: usize,
+}
+
+/// The batch's tables, if it isn't compressed.
+fn if_plain<'a>(header: Option<BatchTables<'a>>) -> Result<BatchTables<'a>, ArrowFault>
+    ensures { result ≡ said_plain header.entry }
+{
+    let Some(batch) = header else {
+        return Err(ArrowFault::UnsupportedType { field: 0 });
+    };
+    if batch.compressed {
+        return Err(ArrowFault::Compressed);
+    }
+    Ok(batch)
+}
+
+/// The columns of these fields, from the left. The error is the first fault of the first column that has one.
+fn columns_in<'a>(
+    alloc: Global,
+    batch: &BatchTables,
+    body: &'a [u8],
+    fields: &[Field],
+) -> Result<List<Column<'a>>, ArrowFault>
+    ensures ok { IfOk result (λ columns. said_columns batch.now body.now 0 0 fields.now ≡ Ok columns) }
+    ensures refused { IfErr result (λ e. e ≢ ArrowFault.OutOfMemory → said_columns batch.now body.now 0 0 fields.now ≡ Err e) }
+{
+    let mut columns = List::new(alloc);
+    let mut first = 0;
+    for (place, field) in fields.iter().enumerate() {
+        columns.push(column_in(batch, body, place, first, field.kind)?)?;
+        first += 1 + buffer_count(field.kind);
+    }
+    Ok(columns)
+}
+
+/// The batch of the message at `at`, whose metadata has this size. The error is the message's first fault.
+#[tactic(auto, unfolding(crate::specs::Reading::batch_at))]
+fn batch_at<'a>(
+    alloc: Global,
+    bytes: &'a [u8],
+    schema: &Schema,
+    at: usize,
+    size: usize,
+) -> Result<Part<'a>, ArrowFault>
+    requires { at + 8 + size ≤ length bytes.now }
+    ensures ok { IfOk result (λ part. said_batch bytes.now schema.now at size ≡ Ok part) }
+    ensures next { IfOk result (λ part. at < part.next) }
+    ensures within { IfOk result (λ part. part.next ≤ length bytes.now) }
+    ensures refused { IfErr result (λ e. e ≢ ArrowFault.OutOfMemory → said_batch bytes.now schema.now at size ≡ Err e) }
+{
+    let Some(head) = head_in(metadata_at(bytes, at, size)) else {
+        return Err(ArrowFault::BadTable { at });
+    };
+    let Some(header) = later_header(&head) else {
+        return Err(ArrowFault::BadTable { at });
+    };
+    let batch = if_plain(header)?;
+    let body = body_at(bytes, at + 8 + size, head.body)?;
+    let columns = columns_in(alloc, &batch, body, schema.0.as_slice())?;
+    Ok(Part {
+        columns,
+        count: batch.count,
+        next: at + 8 + size + head.body,
+    })
+}
+
+/// The batch at `at`, or none where the stream ends: with its bytes, or with an end mark. The error is the message's first fault.
+#[tactic(auto, unfolding(crate::specs::Reading::next_batch))]
+pub(crate) fn next_batch<'a>(
+    alloc: Global,
+    bytes: &'a [u8],
+    schema: &Schema,
+    at: usize,
+) -> Result<Option<Part<'a>>, ArrowFault>
+    requires { at ≤ length bytes.now }
+    ensures ok { IfOk result (λ part. said_next bytes.now schema.now at ≡ Ok part) }
+    ensures next { IfOk result (λ found. IfSome found (λ part. at < part.next)) }
+    ensures within { IfOk result (λ found. IfSome found (λ part. part.next ≤ length bytes.now)) }
+    ensures refused { IfErr result (λ e. e ≢ ArrowFault.OutOfMemory → said_next bytes.now schema.now at ≡ Err e) }
+{
+    if at == bytes.len() {
+        return Ok(None);
+    }
+    let size = metadata_size(bytes, at)?;
+    if size == 0 {
+        return Ok(None);
+    }
+    Ok(Some(batch_at(alloc, bytes, schema, at, size)?))
+}
