@@ -1,0 +1,5 @@
+use Rattle.grpc_web.proofs.ReadBack.{answers_are_read_back}
+use Rattle.grpc_web.proofs.laws.answers_are_read_back.Goals as goal
+
+pub returns : goal.returns
+returns c = answers_are_read_back

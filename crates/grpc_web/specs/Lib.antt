@@ -1,0 +1,2 @@
+-- That what is written is read back.
+pub mod Laws

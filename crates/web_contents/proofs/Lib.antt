@@ -1,0 +1,9 @@
+pub mod Parts
+pub mod Places
+pub mod FramesRead
+pub mod Told
+pub mod Given
+pub mod Ends
+pub mod Finish
+pub mod Read
+pub mod Runs

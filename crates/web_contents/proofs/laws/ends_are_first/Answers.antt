@@ -1,0 +1,5 @@
+use Rattle.web_contents.proofs.Read as proved
+use Rattle.web_contents.proofs.laws.ends_are_first.Goals as goal
+
+pub returns : goal.returns
+returns c = proved.ends_are_first

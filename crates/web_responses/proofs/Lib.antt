@@ -1,0 +1,9 @@
+pub mod Runs
+pub mod Told
+pub mod Given
+pub mod Ends
+pub mod Finish
+pub mod Read
+pub mod BareBodies
+pub mod FeedLemmas
+pub mod Fed

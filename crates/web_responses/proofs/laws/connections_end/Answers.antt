@@ -1,0 +1,5 @@
+use Rattle.web_responses.proofs.Finish as proved
+use Rattle.web_responses.proofs.laws.connections_end.Goals as goal
+
+pub returns : goal.returns
+returns c = proved.connections_end
