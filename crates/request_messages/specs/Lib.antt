@@ -1,0 +1,7 @@
+-- The meanings of requests, and their spellings.
+pub mod Requests
+pub mod Spelled
+pub mod Depths
+pub mod Bits
+pub mod Configs
+pub mod Laws
