@@ -26,8 +26,9 @@ use Rattle.request_messages.specs.declared.config.ConfigRequest.{ConfigRequest}
 use Rattle.request_messages.specs.Spelled.{context_fields}
 use Rattle.request_messages.specs.Configs.{operation_member, operation_in, config_of, operation_of_member, operation_fields, config_fields, HasOperationBits, HasConfigBits}
 use Rattle.request_messages.specs.Depths.{pairs_operation_depth, operation_depth, config_depth}
-use Rattle.request_messages.proofs.Among.{ReadsAs, latest_none, latest_one}
-use Rattle.request_messages.proofs.Groups.{ThreeRead, three_read, ThreeShort, three_short}
+use Rattle.field_groups.specs.Groups.{ReadsAs}
+use Rattle.field_groups.proofs.Among.{latest_none, latest_one}
+use Rattle.field_groups.proofs.Groups.{ThreeRead, three_read, ThreeShort, three_short}
 use Rattle.request_messages.proofs.FieldsBack.{is_1, is_2, is_3, is_4, is_5, is_6, text_read, context_piece, context_read, no_payloads}
 
 -- ---- what a member holds

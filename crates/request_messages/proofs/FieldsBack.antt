@@ -21,7 +21,8 @@ use Rattle.request_messages.specs.Requests.{user_context_of, context_of, option_
 use Rattle.request_messages.specs.Spelled.{user_context_fields, context_fields, option_fields, reattachable_fields}
 use Rattle.request_messages.specs.Depths.{context_depth, reattachable_depth}
 use Rattle.request_messages.specs.Bits.{HasUserContextBits, HasContextBits}
-use Rattle.request_messages.proofs.Among.{ReadsAs, alone}
+use Rattle.field_groups.specs.Groups.{ReadsAs}
+use Rattle.field_groups.proofs.Among.{alone}
 
 pub is_1 : IsNumber 1
 is_1 = is_numbered 1 (omega arith) (omega arith)

@@ -24,8 +24,8 @@ use Rattle.request_messages.specs.Requests.{reattach_of, release_member, release
 use Rattle.request_messages.specs.Spelled.{context_fields, reattach_fields, release_member_fields, release_fields, target_fields, interrupt_fields}
 use Rattle.request_messages.specs.Depths.{reattach_depth, release_member_depth, release_depth, interrupt_depth}
 use Rattle.request_messages.specs.Bits.{HasReattachBits, HasReleaseMemberBits, HasReleaseBits, HasTargetBits, HasInterruptBits}
-use Rattle.request_messages.proofs.Among.{behind, latest_none, latest_one}
-use Rattle.request_messages.proofs.Groups.{FourRead, four_read, FourShort, four_short, four_stand, MemberBack, member_read}
+use Rattle.field_groups.proofs.Among.{behind, latest_none, latest_one}
+use Rattle.field_groups.proofs.Groups.{FourRead, four_read, FourShort, four_short, four_stand, MemberBack, member_read}
 use Rattle.request_messages.proofs.FieldsBack.{is_1, is_3, is_4, is_5, is_6, text_read, payload_read, optional_text_read, int32_read, context_piece, context_read}
 
 -- ---- reattaching

@@ -21,7 +21,7 @@ fn put_target(out: &mut MessageWriter, target: &InterruptTarget) -> Result<(), O
 }
 
 /// Puts the request's message before what stands. Where memory runs out, nothing is promised of what stands then.
-#[tactic(auto, using(crate::proofs::Sequences::stand_four))]
+#[tactic(auto, using(field_groups::proofs::Sequences::stand_four))]
 pub fn put_interrupt(out: &mut MessageWriter, request: &InterruptRequest) -> Result<(), OutOfMemory>
     ensures { OnOk result (out.new ≡ spell (spelled.interrupt_fields request.now) ++ out.old) }
 {
@@ -44,7 +44,7 @@ fn target_size(target: &InterruptTarget) -> u64
 }
 
 /// How many bytes the request's message takes; 2^64 - 1 where it is above that. It takes no memory.
-#[tactic(auto, using(crate::proofs::Sequences::sized_four))]
+#[tactic(auto, using(field_groups::proofs::Sequences::sized_four))]
 pub fn interrupt_size(request: &InterruptRequest) -> u64
     ensures { result ≡ size_of (spelled.interrupt_fields request.now) }
 {

@@ -48,7 +48,7 @@ pub fn reattach_from(alloc: Global, items: &[Record]) -> Result<ReattachRequest,
 }
 
 /// Puts the request's message before what stands. Where memory runs out, nothing is promised of what stands then.
-#[tactic(auto, using(crate::proofs::Sequences::stand_four))]
+#[tactic(auto, using(field_groups::proofs::Sequences::stand_four))]
 pub fn put_reattach(out: &mut MessageWriter, request: &ReattachRequest) -> Result<(), OutOfMemory>
     ensures { OnOk result (out.new ≡ spell (spelled.reattach_fields request.now) ++ out.old) }
 {
@@ -59,7 +59,7 @@ pub fn put_reattach(out: &mut MessageWriter, request: &ReattachRequest) -> Resul
 }
 
 /// How many bytes the request's message takes; 2^64 - 1 where it is above that. It takes no memory.
-#[tactic(auto, using(crate::proofs::Sequences::sized_four))]
+#[tactic(auto, using(field_groups::proofs::Sequences::sized_four))]
 pub fn reattach_size(request: &ReattachRequest) -> u64
     ensures { result ≡ size_of (spelled.reattach_fields request.now) }
 {

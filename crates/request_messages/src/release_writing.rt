@@ -27,7 +27,7 @@ fn put_member(out: &mut MessageWriter, release: &Release) -> Result<(), OutOfMem
 }
 
 /// Puts the request's message before what stands. Where memory runs out, nothing is promised of what stands then.
-#[tactic(auto, using(crate::proofs::Sequences::stand_four))]
+#[tactic(auto, using(field_groups::proofs::Sequences::stand_four))]
 pub fn put_release(out: &mut MessageWriter, request: &ReleaseRequest) -> Result<(), OutOfMemory>
     ensures { OnOk result (out.new ≡ spell (spelled.release_fields request.now) ++ out.old) }
 {
@@ -50,7 +50,7 @@ fn member_size(release: &Release) -> u64
 }
 
 /// How many bytes the request's message takes; 2^64 - 1 where it is above that. It takes no memory.
-#[tactic(auto, using(crate::proofs::Sequences::sized_four))]
+#[tactic(auto, using(field_groups::proofs::Sequences::sized_four))]
 pub fn release_size(request: &ReleaseRequest) -> u64
     ensures { result ≡ size_of (spelled.release_fields request.now) }
 {

@@ -12,24 +12,17 @@ use Rattle.proto_fields.specs.Readings.{number_in, payload_in, last_some, last_n
 use Rattle.proto_fields.specs.Spelling.{payload_fields}
 use Rattle.proto_fields.proofs.PieceLemmas.{AllByRecursion-append}
 use Rattle.proto_fields.proofs.ReadingLemmas.{option_or-none}
-use Rattle.proto_fields.proofs.ReturnLemmas.{last_some-append, last_number-others, last_payload-others, payloads-others}
+use Rattle.proto_fields.proofs.ReturnLemmas.{last_some-append, last_number-others, last_payload-others, payloads-append, payloads-others}
 use Rattle.expression_messages.proofs.Pieces.{HaveNumber, number_front, payload_front, payloads_front}
-use Rattle.proto_fields.proofs.ReturnLemmas.{payloads-append}
+use Rattle.field_groups.specs.Groups.{AreOthers, ReadsAs}
 
 -- ---- fields of other numbers
-
-abbrev pub AreOthers : ℕ → List Field → Type 0
-AreOthers number fields = AllByRecursion (λ field. field.number ≢ number) fields
 
 pub are_others : (number other : ℕ) (fields : List Field) → HaveNumber other fields → other ≢ number → AreOthers number fields
 are_others number other [] numbered different = tt
 are_others number other (field ∷ fields) numbered different = (λ e. different (sym numbered.0 ∙ e), are_others number other fields numbered.1 different)
 
--- what is read of this number is read of this part alone
-pub record ReadsAs (number : ℕ) (whole part : List Field) : Type 0 where
-  pub number_is : last_number number whole ≡ last_number number part
-  pub payload_is : last_payload number whole ≡ last_payload number part
-  pub payloads_are : payloads number whole ≡ payloads number part
+-- ---- what is read of one part
 
 pub alone : (number : ℕ) (part : List Field) → ReadsAs number part part
 alone number part = record { number_is = refl; payload_is = refl; payloads_are = refl }

@@ -6,7 +6,8 @@ use Rattle.proto_fields.specs.Kinds.{is_member}
 use Rattle.proto_fields.proofs.PieceLemmas.{AllByRecursion-append}
 use Rattle.expression_messages.specs.Laws.{IsShort}
 use Rattle.expression_messages.proofs.Pieces.{Stands, two_stand, three_stand, short_two, HaveNumber, Piece}
-use Rattle.request_messages.proofs.Among.{AreOthers, are_others, ReadsAs, alone, before, behind, IsNoMember, AreNoMembers, no_members}
+use Rattle.field_groups.specs.Groups.{AreOthers, ReadsAs}
+use Rattle.field_groups.proofs.Among.{are_others, alone, before, behind, IsNoMember, AreNoMembers, no_members}
 
 -- ---- three groups
 

@@ -1,0 +1,3 @@
+mod Groups
+pub mod Back
+pub mod Agree

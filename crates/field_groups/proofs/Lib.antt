@@ -1,0 +1,4 @@
+pub mod Sequences
+pub mod Among
+pub mod Groups
+pub mod Rests

@@ -1,0 +1,3 @@
+pub mod MapLaws
+pub mod Merging
+pub mod PlainBack
