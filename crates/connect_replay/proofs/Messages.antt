@@ -1,5 +1,7 @@
--- A plan's message that is decoded: the plan is what was spelled, and no fault is left but want of memory.
-use Rattle.std.proofs.Common.{◌≡◌, ℕ, List, Result, Ok, Err, refl, sym, ap, ◌∙◌, subst}
+-- A plan's message that is decoded: the plan is what was spelled, and no fault is left but want of memory. The plan of an ask has a spelling.
+use Rattle.std.proofs.Common.{◌≡◌, ℕ, ◌+◌, ◌^◌, ◌<◌, ◌≤◌, max, true, List, length, Result, Ok, Err, Option, Some, None, refl, sym, ap, ◌∙◌, subst, arith}
+use Rattle.std.specs.Prelude.{IsTrue, FitsSigned}
+use Rattle.std.specs.Int.{w64}
 use Rattle.std.proofs.lemmas.Bool.{false≢true}
 use Rattle.std.specs.Result.{is_ok}
 use Rattle.proto_fields.specs.declared.fault.MessageFault.{MessageFault}
@@ -8,20 +10,68 @@ use Rattle.proto_fields.specs.declared.kind.MessageKind.TheVariants as kinds
 use Rattle.proto_fields.specs.Fields.{fields_of}
 use Rattle.proto_fields.specs.Faults.{IsSound, Gives}
 use Rattle.proto_fields.specs.Spelling.{spell}
-use Rattle.plan_messages.specs.declared.range.Range.{Range}
-use Rattle.plan_messages.specs.declared.relation.Relation.TheVariants as relation
+use Rattle.expression_messages.specs.Laws.{IsShort}
+use Rattle.relation_parts.specs.declared.range.Range.{Range}
+use Rattle.relation_members.specs.declared.member.RelationMember.TheVariants as V
+use Rattle.relation_members.specs.Depths.{member_depth}
+use Rattle.relation_members.specs.Known.{is_known_member}
+use Rattle.relation_messages.specs.declared.relation.Relation.{Relation}
+use Rattle.relation_messages.specs.declared.relation.Relation.TheOpen.{Relation-F}
+use Rattle.relation_messages.specs.declared.relation.Relation.TheViews.{roll-Relation, out-roll-Relation}
+use Rattle.relation_messages.specs.declared.relation.Relation.TheFolds.{every_made-Relation}
+use Rattle.relation_messages.specs.Depths.{common_depth, relation_depth}
+use Rattle.relation_messages.specs.Known.{is_known_relation, HasRelationBitsHere, HasRelationBits}
+use Rattle.relation_messages.proofs.Folds.{relation_deep, relation_known}
 use Rattle.plan_messages.specs.declared.plan.Plan.{Plan}
-use Rattle.plan_messages.specs.declared.plan.Plan.TheVariants.{Root, Command as IsCommand}
-use Rattle.plan_messages.specs.Plans.{plan_of}
-use Rattle.plan_messages.specs.Spelled.{IsKnown, HasPlanBits, plan_fields}
-use Rattle.plan_messages.proofs.ReadBack.{plan_read_back}
+use Rattle.plan_messages.specs.declared.plan.Plan.TheVariants.{Root}
+use Rattle.plan_messages.specs.Plans.{plan_at}
+use Rattle.plan_messages.specs.Spelled.{plan_fields}
+use Rattle.plan_messages.specs.Depths.{plan_depth}
+use Rattle.plan_messages.specs.Known.{IsKnownPlan, HasPlanBits}
+use Rattle.plan_messages.proofs.PlanBack.{plan_read_back}
+use Rattle.connect_replay.specs.declared.ask.Ask.{Ask}
+use Rattle.connect_replay.specs.Message.{asked_range, asked_plan, range_in, root_range}
+
+-- ---- the plan of an ask
+
+-- the one layer of the relation that is asked for
+asked_layer : Ask → Relation-F Relation
+asked_layer ask = record { common = None; member = V.Range (asked_range ask) }
+
+pub asked_known : (ask : Ask) → IsKnownPlan (asked_plan ask)
+unfolding asked_layer
+asked_known ask =
+    relation_known (roll-Relation (asked_layer ask))
+    ∙ ap (λ (layer : Relation-F Relation). is_known_member is_known_relation layer.member) (out-roll-Relation (asked_layer ask))
+
+pub asked_deep : (ask : Ask) → plan_depth (asked_plan ask) ≤ 200
+unfolding asked_layer
+asked_deep ask =
+    let deep : relation_depth (roll-Relation (asked_layer ask)) ≡ 2 =
+    relation_deep (roll-Relation (asked_layer ask))
+    ∙ ap (λ (layer : Relation-F Relation). 1 + max (common_depth layer.common) (member_depth relation_depth layer.member)) (out-roll-Relation (asked_layer ask)) in
+    omega (arith, deep)
+
+pub asked_root : (ask : Ask) → root_range (asked_plan ask) ≡ Some (asked_range ask)
+unfolding asked_layer
+asked_root ask = ap (λ (layer : Relation-F Relation). range_in layer.member) (out-roll-Relation (asked_layer ask))
+
+pub asked_bits : (ask : Ask) → FitsSigned w64 ask.start → FitsSigned w64 ask.end → FitsSigned w64 ask.step → HasPlanBits (asked_plan ask)
+unfolding asked_layer HasRelationBits
+asked_bits ask start end step =
+    every_made-Relation HasRelationBitsHere (asked_layer ask) (record { common = None; member = V.Range (asked_range ask) }) refl
+    (record { common = tt; rest = record { start = start; end = end; step = step; num_partitions = tt } })
 
 -- the decoder gives the plan that these bytes were spelled from
-pub spelled_is_given : (plan : Plan) → IsKnown plan → HasPlanBits plan → (bytes : List ℕ) → bytes ≡ spell (plan_fields plan) → (result : Result Plan MessageFault)
-    → (IsSound 200 kinds.Plan bytes → Gives result (Ok (plan_of (fields_of bytes)))) → Gives result (Ok plan)
-spelled_is_given plan known bits bytes spelled result read =
-    let back = plan_read_back plan known bits in
-    subst (λ (p : Plan). Gives result (Ok p)) (ap (λ (b : List ℕ). plan_of (fields_of b)) spelled ∙ back.same) (read (subst (IsSound 200 kinds.Plan) (sym spelled) back.sound))
+pub asked_is_given : (ask : Ask) → HasPlanBits (asked_plan ask) → (bytes : List ℕ) → length bytes < 2 ^ 64 → bytes ≡ spell (plan_fields (asked_plan ask)) → (result : Result Plan MessageFault) →
+    (IsSound 200 kinds.Plan bytes → Gives result (Ok (plan_at 200 (fields_of bytes)))) → Gives result (Ok (asked_plan ask))
+asked_is_given ask bits bytes fits spelled result read =
+    let plan = asked_plan ask in
+    let short : IsShort (plan_fields plan) = subst (λ (b : List ℕ). length b < 2 ^ 64) spelled fits in
+    let back = plan_read_back 200 plan (asked_known ask) bits short (asked_deep ask) in
+    subst (λ (p : Plan). Gives result (Ok p)) (ap (λ (b : List ℕ). plan_at 200 (fields_of b)) spelled ∙ back.same) (read (subst (IsSound 200 kinds.Plan) (sym spelled) back.sound))
+
+-- ---- what the decoder gives
 
 -- the plan of an answer, or another where there is none
 plan_or : Plan → Result Plan MessageFault → Plan
@@ -42,13 +92,3 @@ given_fault result asked (fault.Wire f) gives is = refuted asked (fault.Wire f) 
 given_fault result asked (fault.NotUtf8 at) gives is = refuted asked (fault.NotUtf8 at) (subst (λ (r : Result Plan MessageFault). Gives r (Ok asked)) is gives)
 given_fault result asked (fault.TooDeep at) gives is = refuted asked (fault.TooDeep at) (subst (λ (r : Result Plan MessageFault). Gives r (Ok asked)) is gives)
 given_fault result asked fault.OutOfMemory gives is = refl
-
--- the range that is a plan's root, or another where it isn't one
-range_or : Range → Plan → Range
-range_or other (Root (relation.Range range)) = range
-range_or other (Root (relation.Other number)) = other
-range_or other (IsCommand command) = other
-
-pub same_root : (range other : Range) → Root (relation.Range range) ≡ Root (relation.Range other) → range ≡ other
-unfolding range_or
-same_root range other same = ap (range_or range) same

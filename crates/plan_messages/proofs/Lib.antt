@@ -1,3 +1,4 @@
-pub mod SpelledPlans
-pub mod RangeBack
-pub mod ReadBack
+pub mod PlanWritten
+pub mod PlanBack
+pub mod Joined
+pub mod PlanAgree

@@ -3,12 +3,15 @@ ghost use Rattle.proto_fields.specs.declared.fault.MessageFault.{MessageFault};
 ghost use Rattle.proto_fields.specs.declared.kind.MessageKind.{MessageKind};
 ghost use Rattle.proto_fields.specs.Faults.{IsSound, IsCause, HasFault, Gives};
 ghost use Rattle.proto_fields.specs.Fields.{fields_of};
-ghost use Rattle.plan_messages.specs.Plans.{plan_of};
+ghost use Rattle.plan_messages.specs.Plans.{plan_at};
 
 use crate::Plan;
-use crate::plan::plan_from;
+use crate::plan_reading::plan_from;
 use proto_fields::{MessageFault, MessageKind, find_fault, records};
 use std::alloc::Global;
+
+/// The levels of nesting that a message may have, its own among them.
+const MOST_LEVELS: u32 = 200;
 
 /// The plan that these bytes spell (Protocol Buffers, Encoding; `base.proto`, Plan). Fields outside the profile are skipped.
 ///
@@ -19,10 +22,10 @@ pub fn decode_plan(alloc: Global, bytes: &[u8]) -> Result<Plan, MessageFault>
     ensures fault { IfErr result (IsCause 200 MessageKind.Plan bytes.now) }
 
     // A sound message is read, and a fault is the answer.
-    ensures read { IsSound 200 MessageKind.Plan bytes.now → Gives result (Ok (plan_of (fields_of bytes.now))) }
+    ensures read { IsSound 200 MessageKind.Plan bytes.now → Gives result (Ok (plan_at 200 (fields_of bytes.now))) }
     ensures faulty { (cause : MessageFault) → HasFault 200 MessageKind.Plan 0 bytes.now cause → Gives result (Err cause) }
 {
     find_fault(alloc, MessageKind::Plan, bytes)?;
     let found = records(alloc, bytes)?;
-    Ok(plan_from(alloc, found.as_slice())?)
+    Ok(plan_from(alloc, found.as_slice(), MOST_LEVELS)?)
 }

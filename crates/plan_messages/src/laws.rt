@@ -1,8 +1,13 @@
 //! Laws over the definitions of plans, each the contract of a function that does nothing.
 
-ghost use Rattle.plan_messages.specs.Laws.{PlansAreReadBack};
+ghost use Rattle.plan_messages.specs.Laws.{PlansAreReadBack, PlanLevelsAgree};
 
-/// What a plan is spelled as is a sound message, and is read as the plan.
+/// What a plan is spelled as is a sound message wherever its depth is allowed, and is read as the plan.
 pub fn plans_are_read_back()
     ensures { PlansAreReadBack }
+{}
+
+/// What is read of a sound message is the same at every level that suffices.
+pub fn plan_levels_agree()
+    ensures { PlanLevelsAgree }
 {}

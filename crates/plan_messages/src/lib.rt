@@ -5,15 +5,27 @@ mod decode;
 mod encode;
 mod laws;
 mod plan;
-mod range;
-mod relation;
+mod plan_measures;
+mod plan_reading;
+mod plan_writing;
 
+pub use command_messages::{Command, SaveTable, WriteOperation};
 pub use decode::decode_plan;
 pub use encode::encode_plan;
-pub use laws::plans_are_read_back;
-pub use plan::{Command, Plan};
-pub use range::Range;
-pub use relation::Relation;
+pub use expression_messages::{
+    Alias, Cast, CastTarget, Expr, Literal, SortOrder, StructField, TypeMessage,
+    UnresolvedAttribute, UnresolvedFunction, UnresolvedStar, decode_type, encode_type,
+};
+pub use laws::{plan_levels_agree, plans_are_read_back};
+pub use plan::Plan;
+pub use plan_measures::is_known_plan;
+pub use plan_reading::plan_from;
+pub use plan_writing::put_plan;
+pub use relation_messages::{
+    Aggregate, Deduplicate, DropColumns, Filter, Join, Limit, LocalRelation, NamedTable, Offset,
+    Project, Range, Read, Relation, RelationCommon, RelationMember, RenameEntry, SetOperation,
+    Sort, SubqueryAlias, ToDf, WithColumns, WithColumnsRenamed,
+};
 
 #[cfg(test)]
 mod tests;

@@ -1,49 +1,55 @@
-use Rattle.std.proofs.Common.{◌≡◌, sym, ap, ◌∙◌, subst, SFits, w64, rules}
-use Rattle.std.specs.Prelude.{Ok}
+-- The message of an ask's plan is read as the plan, whose root is the range.
+use Rattle.std.proofs.Common.{◌≡◌, ◌^◌, ◌<◌, ℕ, Option, Some, None, length, sym, ap, ◌∙◌, subst, rules}
+use Rattle.std.specs.Prelude.{Ok, ◌≤◌, unwrap_or}
+use Rattle.std.specs.Option.{is_some}
+use Rattle.std.proofs.lemmas.Bool.{false≢true}
 use Rattle.proto_fields.specs.Faults.{Gives}
 use Rattle.proto_fields.specs.Spelling.{spell}
+use Rattle.relation_parts.specs.declared.range.Range.{Range}
 use Rattle.plan_messages.specs.declared.plan.Plan.{Plan}
-use Rattle.plan_messages.specs.Spelled.{HasPlanBits, plan_fields}
-use Rattle.connect_replay.specs.Message.{HasRange, asked_plan, asked_range}
-use Rattle.connect_replay.proofs.Messages.{spelled_is_given, given_plan, given_fault, same_root}
+use Rattle.plan_messages.specs.Spelled.{plan_fields}
+use Rattle.plan_messages.specs.Depths.{plan_depth}
+use Rattle.plan_messages.specs.Known.{IsKnownPlan, HasPlanBits}
+use Rattle.connect_replay.specs.Message.{asked_plan, asked_range, root_range}
+use Rattle.connect_replay.proofs.Messages.{asked_known, asked_deep, asked_root, asked_is_given, given_plan, given_fault}
 use Rattle.connect_replay.proofs.message.range_of_message.Goals as goal
 
-pub range_of_root-requires : goal.range_of_root-requires
-range_of_root-requires c =
-    let asked = asked_plan c.args.ask.now in
-    let start : SFits w64 c.args.ask.now.start = search rules in
-    let end : SFits w64 c.args.ask.now.end = search rules in
-    let step : SFits w64 c.args.ask.now.step = search rules in
-    let bits : HasPlanBits asked = record { start = start; end = end; step = step; num_partitions = tt } in
-    let spelled : c.as_slice.result.now ≡ spell (plan_fields asked) =
-    c.as_slice.ensures ∙ c.in_ok-message.ensures ∙ ap (λ (p : Plan). spell (plan_fields p)) c.plan_of_ask.ensures in
-    let gives : Gives c.decode_plan.result (Ok asked) =
-    spelled_is_given asked tt bits c.as_slice.result.now spelled c.decode_plan.result c.decode_plan.ensures.read in
-    subst HasRange (sym (given_plan c.decode_plan.result asked c.in-Ok.plan gives c.in-Ok.is)) tt
+pub encode_plan-requires-clause-known : goal.encode_plan-requires-clause-known
+encode_plan-requires-clause-known c = subst IsKnownPlan (sym c.plan_of_ask-asked.ensures.exact) (asked_known c.args.ask.now)
 
-pub returns-in-Ok : goal.returns-in-Ok
-returns-in-Ok c =
-    let asked = asked_plan c.args.ask.now in
-    let start : SFits w64 c.args.ask.now.start = search rules in
-    let end : SFits w64 c.args.ask.now.end = search rules in
-    let step : SFits w64 c.args.ask.now.step = search rules in
-    let bits : HasPlanBits asked = record { start = start; end = end; step = step; num_partitions = tt } in
-    let spelled : c.as_slice.result.now ≡ spell (plan_fields asked) =
-    c.as_slice.ensures ∙ c.in_ok-message.ensures ∙ ap (λ (p : Plan). spell (plan_fields p)) c.plan_of_ask.ensures in
-    let gives : Gives c.decode_plan.result (Ok asked) =
-    spelled_is_given asked tt bits c.as_slice.result.now spelled c.decode_plan.result c.decode_plan.ensures.read in
-    same_root c.range_of_root.result (asked_range c.args.ask.now)
-    (sym c.range_of_root.ensures ∙ given_plan c.decode_plan.result asked c.in-Ok.plan gives c.in-Ok.is)
+pub encode_plan-requires-clause-depth : goal.encode_plan-requires-clause-depth
+encode_plan-requires-clause-depth c = subst (λ (plan : Plan). plan_depth plan ≤ 200) (sym c.plan_of_ask-asked.ensures.exact) (asked_deep c.args.ask.now)
+
+pub returns-in-Some : goal.returns-in-Some
+returns-in-Some c =
+    let bits : HasPlanBits (asked_plan c.args.ask.now) = subst HasPlanBits c.plan_of_ask-asked.ensures.exact c.plan_of_ask-asked.ensures.bits in
+    let fits : length c.as_slice.result.now < 2 ^ 64 = search rules in
+    let spelled : c.as_slice.result.now ≡ spell (plan_fields (asked_plan c.args.ask.now)) =
+    c.as_slice.ensures ∙ c.in_ok-message.ensures ∙ ap (λ (p : Plan). spell (plan_fields p)) c.plan_of_ask-asked.ensures.exact in
+    let gives : Gives c.decode_plan.result (Ok (asked_plan c.args.ask.now)) =
+    asked_is_given c.args.ask.now bits c.as_slice.result.now fits spelled c.decode_plan.result c.decode_plan.ensures.read in
+    let root : c.range_of_root.result ≡ Some (asked_range c.args.ask.now) =
+    c.range_of_root.ensures ∙ ap root_range (given_plan c.decode_plan.result (asked_plan c.args.ask.now) c.in-Ok.plan gives c.in-Ok.is) ∙ asked_root c.args.ask.now in
+    ap (λ (o : Option Range). unwrap_or o (asked_range c.args.ask.now)) (sym c.in-Some.is ∙ root)
+
+pub unreachable-requires : goal.unreachable-requires
+unreachable-requires c =
+    let bits : HasPlanBits (asked_plan c.args.ask.now) = subst HasPlanBits c.plan_of_ask-asked.ensures.exact c.plan_of_ask-asked.ensures.bits in
+    let fits : length c.as_slice.result.now < 2 ^ 64 = search rules in
+    let spelled : c.as_slice.result.now ≡ spell (plan_fields (asked_plan c.args.ask.now)) =
+    c.as_slice.ensures ∙ c.in_ok-message.ensures ∙ ap (λ (p : Plan). spell (plan_fields p)) c.plan_of_ask-asked.ensures.exact in
+    let gives : Gives c.decode_plan.result (Ok (asked_plan c.args.ask.now)) =
+    asked_is_given c.args.ask.now bits c.as_slice.result.now fits spelled c.decode_plan.result c.decode_plan.ensures.read in
+    let root : c.range_of_root.result ≡ Some (asked_range c.args.ask.now) =
+    c.range_of_root.ensures ∙ ap root_range (given_plan c.decode_plan.result (asked_plan c.args.ask.now) c.in-Ok.plan gives c.in-Ok.is) ∙ asked_root c.args.ask.now in
+    absurd (false≢true (ap is_some (sym c.in-None.is ∙ root)))
 
 pub want_of_memory-requires : goal.want_of_memory-requires
 want_of_memory-requires c =
-    let asked = asked_plan c.args.ask.now in
-    let start : SFits w64 c.args.ask.now.start = search rules in
-    let end : SFits w64 c.args.ask.now.end = search rules in
-    let step : SFits w64 c.args.ask.now.step = search rules in
-    let bits : HasPlanBits asked = record { start = start; end = end; step = step; num_partitions = tt } in
-    let spelled : c.as_slice.result.now ≡ spell (plan_fields asked) =
-    c.as_slice.ensures ∙ c.in_ok-message.ensures ∙ ap (λ (p : Plan). spell (plan_fields p)) c.plan_of_ask.ensures in
-    let gives : Gives c.decode_plan.result (Ok asked) =
-    spelled_is_given asked tt bits c.as_slice.result.now spelled c.decode_plan.result c.decode_plan.ensures.read in
-    given_fault c.decode_plan.result asked c.in-Err.fault gives c.in-Err.is
+    let bits : HasPlanBits (asked_plan c.args.ask.now) = subst HasPlanBits c.plan_of_ask-asked.ensures.exact c.plan_of_ask-asked.ensures.bits in
+    let fits : length c.as_slice.result.now < 2 ^ 64 = search rules in
+    let spelled : c.as_slice.result.now ≡ spell (plan_fields (asked_plan c.args.ask.now)) =
+    c.as_slice.ensures ∙ c.in_ok-message.ensures ∙ ap (λ (p : Plan). spell (plan_fields p)) c.plan_of_ask-asked.ensures.exact in
+    let gives : Gives c.decode_plan.result (Ok (asked_plan c.args.ask.now)) =
+    asked_is_given c.args.ask.now bits c.as_slice.result.now fits spelled c.decode_plan.result c.decode_plan.ensures.read in
+    given_fault c.decode_plan.result (asked_plan c.args.ask.now) c.in-Err.fault gives c.in-Err.is

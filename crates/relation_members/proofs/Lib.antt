@@ -1,0 +1,6 @@
+pub mod Shorts
+pub mod Messages
+pub mod Numbers
+pub mod MemberBack
+pub mod MemberAgrees
+pub mod OverInputs

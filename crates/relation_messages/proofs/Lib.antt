@@ -1,0 +1,5 @@
+pub mod Folds
+pub mod Levels
+pub mod RelationBack
+pub mod SameRelations
+pub mod Measured

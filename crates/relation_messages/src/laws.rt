@@ -1,0 +1,13 @@
+//! Laws over the definitions of relations, each the contract of a function that does nothing.
+
+ghost use Rattle.relation_messages.specs.Laws.{RelationsAreReadBack, RelationLevelsAgree};
+
+/// What a relation is spelled as is a sound message wherever its depth is allowed, and is read as the relation.
+pub fn relations_are_read_back()
+    ensures { RelationsAreReadBack }
+{}
+
+/// What is read of a sound message is the same at every level that suffices.
+pub fn relation_levels_agree()
+    ensures { RelationLevelsAgree }
+{}
