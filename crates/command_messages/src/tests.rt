@@ -17,7 +17,8 @@ fn operation_in(
 
 /// The fields besides the input of a copy, written again.
 fn rest_again(alloc: Global, operation: &WriteOperation<u32>) -> Result<Bytes, OutOfMemory> {
-    let copied = write_operation_like(alloc, operation, true)?.copy(alloc)?;
+    let like = write_operation_like(alloc, operation, true)?;
+    let copied = like.copy(alloc)?;
     let mut out = MessageWriter::new(alloc);
     put_write_operation_rest(&mut out, &copied)?;
     Ok(out.finish())

@@ -9,18 +9,18 @@ use std::process::Abort;
 use std::test::Fail;
 
 /// The plan's message; no bytes where the plan has no spelling.
-fn spelling_of(alloc: Global, plan: &Plan) -> Result<Bytes, OutOfMemory> {
+fn spelling_of(alloc: Global, plan: &Plan) -> Result<Bytes, MessageFault> {
     if !is_known_plan(plan) {
         return Ok(Bytes::new(alloc));
     }
     if plan.depth() > 200 {
         return Ok(Bytes::new(alloc));
     }
-    encode_plan(alloc, plan)
+    Ok(encode_plan(alloc, plan)?)
 }
 
 /// The message of the plan's copy.
-fn copy_spelled(alloc: Global, plan: &Plan) -> Result<Bytes, OutOfMemory> {
+fn copy_spelled(alloc: Global, plan: &Plan) -> Result<Bytes, MessageFault> {
     let copied = plan.copy(alloc)?;
     spelling_of(alloc, &copied)
 }
@@ -28,7 +28,7 @@ fn copy_spelled(alloc: Global, plan: &Plan) -> Result<Bytes, OutOfMemory> {
 /// The plan that the bytes hold, copied and written again.
 fn again(alloc: Global, bytes: &[u8]) -> Result<Bytes, MessageFault> {
     let plan = decode_plan(alloc, bytes)?;
-    Ok(copy_spelled(alloc, &plan)?)
+    copy_spelled(alloc, &plan)
 }
 
 /// How many bytes the spelling of the plan has that the bytes hold, how deep it is, and whether there is one.
@@ -83,6 +83,18 @@ fn plans_are_written_again(rt: HostRuntime) -> Result<(), Fail> {
     Ok(())
 }
 
+/// Whether the plan is printed so.
+fn is_shown(alloc: Global, plan: &Plan, shown: &[u8]) -> Result<bool, MessageFault> {
+    let printed = format!(in alloc; "{plan:?}")?;
+    Ok(printed.as_bytes() == shown)
+}
+
+/// Whether the plan that the bytes hold is printed so.
+fn is_read_as(alloc: Global, bytes: &[u8], shown: &[u8]) -> Result<bool, MessageFault> {
+    let plan = decode_plan(alloc, bytes)?;
+    is_shown(alloc, &plan, shown)
+}
+
 /// Bytes of plans without a spelling, and what they are read as.
 static UNKNOWN: [(&[u8], &[u8]); 4] = [
     (b"", b"Root(Relation { common: None, member: Other(0) })"),
@@ -98,10 +110,8 @@ static UNKNOWN: [(&[u8], &[u8]); 4] = [
 #[test]
 fn plans_without_a_spelling(rt: HostRuntime) -> Result<(), Fail> {
     for (bytes, shown) in &UNKNOWN {
-        let plan = decode_plan(rt.alloc(), *bytes)?;
-        let printed = format!(in rt.alloc(); "{plan:?}")?;
-        assert_eq!(rt; printed.as_bytes(), *shown);
-        assert!(rt; !is_known_plan(&plan));
+        assert!(rt; is_read_as(rt.alloc(), *bytes, *shown)?);
+        assert!(rt; !measures(rt.alloc(), *bytes)?.2);
     }
     Ok(())
 }
