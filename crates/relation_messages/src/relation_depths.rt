@@ -38,7 +38,7 @@ pub fn relation_depth(relation: &Relation) -> u32
 fn depth_over(member: &RelationMember<Relation>, first: u32, second: u32) -> u32
     ensures { (one other : ℕ) → first ≡ told one → second ≡ told other
         → result ≡ told (unwrap_or
-          (option_map (λ number. 1 + max (max one other) (rest_levels member.now)) (number_of member.now)) 0) }
+        (option_map (λ number. 1 + max (max one other) (rest_levels member.now)) (number_of member.now)) 0) }
 {
     match member_number(member) {
         Some(_) => first.max(second).max(rest_depth(member)).saturating_add(1),

@@ -1,0 +1,5 @@
+pub mod ExecuteBack
+pub mod AnalyzeBack
+pub mod RequestBack
+pub mod PlansAgree
+pub mod SameRequests

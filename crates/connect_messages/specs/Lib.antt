@@ -1,0 +1,6 @@
+-- The meanings of requests, and their spellings.
+pub mod Requests
+pub mod Spelled
+pub mod Depths
+pub mod Known
+pub mod Laws

@@ -1,0 +1,235 @@
+use super::*;
+use MessageFault::{NotUtf8, TooDeep, Wire};
+use cn_base::{Bytes, Copied, OutOfMemory};
+use expression_messages::put_message_head;
+use proto_fields::{MessageFault, MessageWriter};
+use proto_wire::WireFault;
+use std::alloc::Global;
+use std::process::Abort;
+use std::test::Fail;
+
+/// The bytes of a request that has a spelling.
+fn written(rt: &impl Abort, alloc: Global, request: &Request) -> Result<Bytes, OutOfMemory> {
+    if !is_known_request(request) || request_depth(request) > 200 {
+        panic!(rt; "no spelling");
+    }
+    encode_request(alloc, request)
+}
+
+/// The bytes of a copy of the request.
+fn copy_written(rt: &impl Abort, alloc: Global, request: &Request) -> Result<Bytes, OutOfMemory> {
+    let copied = request.copy(alloc)?;
+    written(rt, alloc, &copied)
+}
+
+/// The request is written as these bytes, by a copy of it, with so many messages nested.
+fn has_spelling(
+    rt: &impl Abort,
+    alloc: Global,
+    request: &Request,
+    bytes: &[u8],
+    depth: u32,
+) -> Result<(), Fail> {
+    let again = copy_written(rt, alloc, request)?;
+    assert_eq!(rt; again.as_slice(), bytes);
+    assert_eq!(rt; request_size(request), bytes.len() as u64);
+    assert_eq!(rt; request_depth(request), depth);
+    Ok(())
+}
+
+/// The request of this method that the bytes hold is written as these.
+fn is_written(
+    rt: &impl Abort,
+    alloc: Global,
+    method: Method,
+    bytes: &[u8],
+    again: &[u8],
+    depth: u32,
+) -> Result<(), Fail> {
+    let request = decode_request(alloc, method, bytes)?;
+    has_spelling(rt, alloc, &request, again, depth)
+}
+
+/// These requests are written so.
+fn are_written(
+    rt: &impl Abort,
+    alloc: Global,
+    table: &[(Method, &[u8], &[u8], u32)],
+) -> Result<(), Fail> {
+    for (method, bytes, again, depth) in table {
+        is_written(rt, alloc, *method, *bytes, *again, *depth)?;
+    }
+    Ok(())
+}
+
+/// Methods, bytes, how the request is written again, and how many messages are nested in it.
+static REQUESTS: [(Method, &[u8], &[u8], u32); 12] = [
+    // All fields: session_id, user_context, the plan of a range, reattach_options, operation_id, two tags.
+    (
+        Method::ExecutePlan,
+        b"\x0a\x01s\x12\x03\x0a\x01u\x1a\x02\x08\x01\x2a\x04\x0a\x02\x08\x01\x32\x01o\x3a\x01t\x3a\x00",
+        b"\x0a\x01s\x12\x03\x0a\x01u\x1a\x02\x08\x01\x2a\x04\x0a\x02\x08\x01\x32\x01o\x3a\x01t\x3a\x00",
+        3,
+    ),
+    // Fields in another order; of two options with reattach_options the last counts.
+    (
+        Method::ExecutePlan,
+        b"\x3a\x01t\x2a\x04\x0a\x02\x08\x01\x2a\x02\x0a\x00\x1a\x02\x08\x01\x0a\x01s",
+        b"\x0a\x01s\x1a\x02\x08\x01\x3a\x01t",
+        2,
+    ),
+    (
+        Method::AnalyzePlan,
+        b"\x0a\x01s\x12\x03\x0a\x01u\x22\x04\x0a\x02\x08\x01",
+        b"\x0a\x01s\x12\x03\x0a\x01u\x22\x04\x0a\x02\x08\x01",
+        3,
+    ),
+    (
+        Method::AnalyzePlan,
+        b"\x42\x04\x0a\x02\x08\x01",
+        b"\x42\x04\x0a\x02\x08\x01",
+        3,
+    ),
+    (Method::AnalyzePlan, b"\x52\x00", b"\x52\x00", 2),
+    // The member that was set last, whose fields say nothing.
+    (
+        Method::AnalyzePlan,
+        b"\x42\x04\x0a\x02\x08\x01\x52\x02\x08\x01",
+        b"\x52\x00",
+        2,
+    ),
+    (
+        Method::Config,
+        b"\x0a\x01s\x12\x03\x0a\x01u\x1a\x05\x12\x03\x0a\x01k",
+        b"\x0a\x01s\x12\x03\x0a\x01u\x1a\x05\x12\x03\x0a\x01k",
+        3,
+    ),
+    (
+        Method::Interrupt,
+        b"\x0a\x01s\x20\x02\x2a\x01t",
+        b"\x0a\x01s\x20\x02\x2a\x01t",
+        1,
+    ),
+    (
+        Method::ReattachExecute,
+        b"\x0a\x01s\x1a\x01o\x2a\x01r",
+        b"\x0a\x01s\x1a\x01o\x2a\x01r",
+        1,
+    ),
+    (
+        Method::ReleaseExecute,
+        b"\x2a\x00\x32\x03\x0a\x01x",
+        b"\x32\x03\x0a\x01x",
+        2,
+    ),
+    (
+        Method::ReleaseExecute,
+        b"\x32\x03\x0a\x01x\x2a\x00\x32\x00",
+        b"\x32\x00",
+        2,
+    ),
+    (Method::ReleaseExecute, b"", b"", 1),
+];
+
+#[test]
+fn requests_are_read_and_written(rt: HostRuntime) -> Result<(), Fail> {
+    are_written(&rt, rt.alloc(), &REQUESTS)
+}
+
+/// The number of the question that a request asks, where it is outside the profile.
+fn other_question(request: &Request) -> Option<u32> {
+    match request {
+        Request::AnalyzePlan(
+            AnalyzeRequest {
+                analysis: Analysis::Other(number),
+                ..
+            },
+        ) => Some(*number),
+        _ => None,
+    }
+}
+
+/// Requests that are read and have no spelling, and the number of another question.
+static UNKNOWN: [(Method, &[u8], Option<u32>); 4] = [
+    // Without a plan.
+    (Method::ExecutePlan, b"", None),
+    (Method::AnalyzePlan, b"", Some(0)),
+    (Method::AnalyzePlan, b"\x0a\x01s\x2a\x00", Some(5)),
+    (Method::AnalyzePlan, b"\x22\x00", None),
+];
+
+#[test]
+fn what_is_outside_the_profile_has_no_spelling(rt: HostRuntime) -> Result<(), Fail> {
+    for (method, bytes, number) in &UNKNOWN {
+        let request = decode_request(rt.alloc(), *method, *bytes)?;
+        assert_eq!(rt; is_known_request(&request), false);
+        assert_eq!(rt; other_question(&request), *number);
+    }
+    Ok(())
+}
+
+/// Bytes that are no request of a method, and their first fault.
+static FAULTS: [(Method, &[u8], MessageFault); 3] = [
+    (
+        Method::ExecutePlan,
+        b"\x12\x03\x0a\x01\xff",
+        NotUtf8 { at: 4 },
+    ),
+    // In a payload that a later member replaces.
+    (
+        Method::AnalyzePlan,
+        b"\x22\x02\x0a\x05\x52\x00",
+        Wire(WireFault::Truncated { at: 4 }),
+    ),
+    (
+        Method::ReleaseExecute,
+        b"\x32\x03\x0a\x01\xff",
+        NotUtf8 { at: 4 },
+    ),
+];
+
+#[test]
+fn faults_have_their_places(rt: HostRuntime) {
+    for (method, bytes, fault) in &FAULTS {
+        match decode_request(rt.alloc(), *method, *bytes) {
+            Ok(_) => panic!(rt; "no fault in {bytes:?}"),
+            Err(found) => assert_eq!(rt; found, *fault, "{bytes:?}"),
+        }
+    }
+}
+
+/// A request to execute this relation within 98 limits.
+fn deep(alloc: Global, relation: &[u8]) -> Result<Bytes, OutOfMemory> {
+    let mut out = MessageWriter::new(alloc);
+    out.put_payload(1, relation)?;
+    for _ in 0..97 {
+        put_message_head(&mut out, 8, 0)?;
+        put_message_head(&mut out, 1, 0)?;
+    }
+    put_message_head(&mut out, 8, 0)?;
+    put_message_head(&mut out, 1, 0)?;
+    put_message_head(&mut out, 3, 0)?;
+    Ok(out.finish())
+}
+
+#[test]
+fn requests_may_be_200_messages_deep(rt: HostRuntime) -> Result<(), Fail> {
+    // The innermost message is a range.
+    let bytes = deep(rt.alloc(), b"\x7a\x00")?;
+    let given = bytes.as_slice();
+    let request = decode_request(rt.alloc(), Method::ExecutePlan, given)?;
+    assert_eq!(rt; is_known_request(&request), false);
+    Ok(())
+}
+
+#[test]
+fn requests_may_not_be_201_messages_deep(rt: HostRuntime) -> Result<(), Fail> {
+    // The 201st message is the empty table of a read, at the end.
+    let bytes = deep(rt.alloc(), b"\x12\x02\x0a\x00")?;
+    match decode_request(rt.alloc(), Method::ExecutePlan, bytes.as_slice()) {
+        Ok(_) => panic!(rt; "not too deep"),
+        Err(TooDeep { at }) => assert_eq!(rt; at, bytes.len()),
+        Err(fault) => panic!(rt; "{fault:?}"),
+    }
+    Ok(())
+}
