@@ -8,33 +8,45 @@ use std::alloc::Global;
 use std::process::Abort;
 use std::test::Fail;
 
-/// The plan's message; no bytes where the plan has no spelling.
-fn spelling_of(alloc: Global, plan: &Plan) -> Result<Bytes, MessageFault> {
-    if !is_known_plan(plan) {
-        return Ok(Bytes::new(alloc));
+/// The bytes of a plan that has a spelling.
+fn written(rt: &impl Abort, alloc: Global, plan: &Plan) -> Result<Bytes, OutOfMemory> {
+    if !is_known_plan(plan) || plan.depth() > 200 {
+        panic!(rt; "no spelling");
     }
-    if plan.depth() > 200 {
-        return Ok(Bytes::new(alloc));
-    }
-    Ok(encode_plan(alloc, plan)?)
+    encode_plan(alloc, plan)
 }
 
-/// The message of the plan's copy.
-fn copy_spelled(alloc: Global, plan: &Plan) -> Result<Bytes, MessageFault> {
+/// The bytes of a copy of the plan.
+fn copy_written(rt: &impl Abort, alloc: Global, plan: &Plan) -> Result<Bytes, OutOfMemory> {
     let copied = plan.copy(alloc)?;
-    spelling_of(alloc, &copied)
+    written(rt, alloc, &copied)
 }
 
-/// The plan that the bytes hold, copied and written again.
-fn again(alloc: Global, bytes: &[u8]) -> Result<Bytes, MessageFault> {
-    let plan = decode_plan(alloc, bytes)?;
-    copy_spelled(alloc, &plan)
+/// The plan is written as these bytes, by a copy of it, with so many messages nested.
+fn has_spelling(
+    rt: &impl Abort,
+    alloc: Global,
+    plan: &Plan,
+    bytes: &[u8],
+    depth: u32,
+) -> Result<(), Fail> {
+    let again = copy_written(rt, alloc, plan)?;
+    assert_eq!(rt; again.as_slice(), bytes);
+    assert_eq!(rt; plan.spelled(), bytes.len() as u64);
+    assert_eq!(rt; plan.depth(), depth);
+    Ok(())
 }
 
-/// How many bytes the spelling of the plan has that the bytes hold, how deep it is, and whether there is one.
-fn measures(alloc: Global, bytes: &[u8]) -> Result<(u64, u32, bool), MessageFault> {
+/// The plan that the bytes hold is written as these.
+fn is_written(
+    rt: &impl Abort,
+    alloc: Global,
+    bytes: &[u8],
+    again: &[u8],
+    depth: u32,
+) -> Result<(), Fail> {
     let plan = decode_plan(alloc, bytes)?;
-    Ok((plan.spelled(), plan.depth(), is_known_plan(&plan)))
+    has_spelling(rt, alloc, &plan, again, depth)
 }
 
 /// Bytes, how their plan is written again, and how deep it is.
@@ -73,45 +85,21 @@ static PLANS: [(&[u8], &[u8], u32); 5] = [
 
 #[test]
 fn plans_are_written_again(rt: HostRuntime) -> Result<(), Fail> {
-    for (bytes, written, depth) in &PLANS {
-        assert_eq!(rt; again(rt.alloc(), *bytes)?.as_slice(), *written);
-        assert_eq!(rt;
-            measures(rt.alloc(), *bytes)?,
-            (written.len() as u64, *depth, true)
-        );
+    for (bytes, again, depth) in &PLANS {
+        is_written(&rt, rt.alloc(), *bytes, *again, *depth)?;
     }
     Ok(())
 }
 
-/// Whether the plan is printed so.
-fn is_shown(alloc: Global, plan: &Plan, shown: &[u8]) -> Result<bool, MessageFault> {
-    let printed = format!(in alloc; "{plan:?}")?;
-    Ok(printed.as_bytes() == shown)
-}
-
-/// Whether the plan that the bytes hold is printed so.
-fn is_read_as(alloc: Global, bytes: &[u8], shown: &[u8]) -> Result<bool, MessageFault> {
-    let plan = decode_plan(alloc, bytes)?;
-    is_shown(alloc, &plan, shown)
-}
-
-/// Bytes of plans without a spelling, and what they are read as.
-static UNKNOWN: [(&[u8], &[u8]); 4] = [
-    (b"", b"Root(Relation { common: None, member: Other(0) })"),
-    (
-        b"\x0a\x00",
-        b"Root(Relation { common: None, member: Other(0) })",
-    ),
-    (b"\x12\x00", b"Command(Other(0))"),
-    // A command that isn't in the profile.
-    (b"\x12\x02\x0a\x00", b"Command(Other(1))"),
-];
+/// Bytes of plans without a spelling: nothing, an absent root, an absent command, and a command that isn't in the profile.
+static UNKNOWN: [&[u8]; 4] = [b"", b"\x0a\x00", b"\x12\x00", b"\x12\x02\x0a\x00"];
 
 #[test]
-fn plans_without_a_spelling(rt: HostRuntime) -> Result<(), Fail> {
-    for (bytes, shown) in &UNKNOWN {
-        assert!(rt; is_read_as(rt.alloc(), *bytes, *shown)?);
-        assert!(rt; !measures(rt.alloc(), *bytes)?.2);
+fn what_is_outside_the_profile_has_no_spelling(rt: HostRuntime) -> Result<(), Fail> {
+    for bytes in &UNKNOWN {
+        let plan = decode_plan(rt.alloc(), *bytes)?;
+        assert_eq!(rt; is_known_plan(&plan), false);
+        assert_eq!(rt; plan.depth(), 2);
     }
     Ok(())
 }
@@ -143,9 +131,9 @@ static FAULTS: [(&[u8], MessageFault); 5] = [
 #[test]
 fn faults_have_their_places(rt: HostRuntime) {
     for (bytes, fault) in &FAULTS {
-        match again(rt.alloc(), *bytes) {
-            Ok(_) => panic!(rt; "a plan in {bytes:?}"),
-            Err(found) => assert_eq!(rt; found, *fault),
+        match decode_plan(rt.alloc(), *bytes) {
+            Ok(_) => panic!(rt; "no fault in {bytes:?}"),
+            Err(found) => assert_eq!(rt; found, *fault, "{bytes:?}"),
         }
     }
 }
@@ -162,23 +150,23 @@ fn nested(alloc: Global, limits: u32, last: &[u8]) -> Result<Bytes, OutOfMemory>
     Ok(out.finish())
 }
 
-/// How deep the plan of so many limits over another is.
-fn nested_depth(alloc: Global, limits: u32, last: &[u8]) -> Result<u32, MessageFault> {
-    let bytes = nested(alloc, limits, last)?;
-    let plan = decode_plan(alloc, bytes.as_slice())?;
-    Ok(plan.depth())
+#[test]
+fn plans_may_be_200_messages_deep(rt: HostRuntime) -> Result<(), Fail> {
+    // Within 97 limits another, of a table that is five messages deep.
+    let bytes = nested(rt.alloc(), 97, b"\x0a\x04\x12\x02\x0a\x00")?;
+    let plan = decode_plan(rt.alloc(), bytes.as_slice())?;
+    assert_eq!(rt; plan.depth(), 200);
+    Ok(())
 }
 
 #[test]
-fn plans_are_200_deep_at_most(rt: HostRuntime) {
-    // A limit over a table: five messages, its own among them.
-    assert_eq!(rt;
-        nested_depth(rt.alloc(), 97, b"\x0a\x04\x12\x02\x0a\x00"),
-        Ok(200)
-    );
-    // A limit over a range: four.
-    match nested_depth(rt.alloc(), 98, b"\x0a\x02\x7a\x00") {
-        Ok(depth) => panic!(rt; "{depth}"),
-        Err(found) => assert_eq!(rt; found, TooDeep { at: 536 }),
+fn plans_may_not_be_201_messages_deep(rt: HostRuntime) -> Result<(), Fail> {
+    // Within 98 limits another, of a range that is four messages deep.
+    let bytes = nested(rt.alloc(), 98, b"\x0a\x02\x7a\x00")?;
+    match decode_plan(rt.alloc(), bytes.as_slice()) {
+        Ok(_) => panic!(rt; "not too deep"),
+        Err(TooDeep { at }) => assert_eq!(rt; at, bytes.len()),
+        Err(fault) => panic!(rt; "{fault:?}"),
     }
+    Ok(())
 }
