@@ -29,4 +29,6 @@ pub use response_messages::{
 };
 
 #[cfg(test)]
+mod plan_tests;
+#[cfg(test)]
 mod tests;

@@ -26,6 +26,3 @@ pub use relation_messages::{
     Project, Range, Read, Relation, RelationCommon, RelationMember, RenameEntry, SetOperation,
     Sort, SubqueryAlias, ToDf, WithColumns, WithColumnsRenamed,
 };
-
-#[cfg(test)]
-mod tests;

@@ -1,7 +1,7 @@
-use super::*;
 use MessageFault::{NotUtf8, TooDeep, Wire};
 use cn_base::{Bytes, Copied, OutOfMemory};
 use expression_messages::put_message_head;
+use plan_messages::{Plan, decode_plan, encode_plan, is_known_plan};
 use proto_fields::{MessageFault, MessageWriter};
 use proto_wire::WireFault;
 use std::alloc::Global;
