@@ -29,6 +29,4 @@ pub use response_messages::{
 };
 
 #[cfg(test)]
-mod plan_tests;
-#[cfg(test)]
 mod tests;
