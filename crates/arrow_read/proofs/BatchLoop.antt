@@ -1,19 +1,19 @@
 -- The batches of a stream, one after another.
-use Rattle.std.proofs.Common.{◌≡◌, ℕ, zero, suc, ◌+◌, ◌-◌, ◌<◌, ◌≤◌, Bool, true, false, cond, eqb, leb, Option, None, Some, Result, Ok, Err, List, [], ◌∷◌, ◌++◌, length, take, drop, arith, refl, ap, ◌∙◌, sym}
+use Rattle.std.proofs.Common.{◌≡◌, ℕ, zero, suc, ◌+◌, ◌-◌, ◌<◌, ◌≤◌, Bool, true, false, cond, eqb, Option, None, Some, Result, Ok, Err, List, [], ◌∷◌, ◌++◌, length, arith, refl, ap, ◌∙◌, sym}
 use Rattle.std.specs.List.{flat_map}
 use Rattle.std.proofs.lemmas.List.{append_assoc, append-nil}
-use Rattle.std.proofs.lemmas.Bool.Decides.{nat_tests}
 use Rattle.cn_types.specs.declared.row.Row.{Row}
 use Rattle.cn_types.specs.declared.schema.Schema.{Schema}
 use Rattle.arrow_read.specs.declared.fault.ArrowFault.{ArrowFault}
-use Rattle.arrow_read.specs.declared.fault.ArrowFault.TheVariants.{BadTable, Compressed, Truncated}
+use Rattle.arrow_read.specs.declared.fault.ArrowFault.TheVariants.{BadTable, Compressed}
 use Rattle.arrow_read.specs.declared.head.Head.{Head}
 use Rattle.arrow_read.specs.declared.batch.BatchTables.{BatchTables}
 use Rattle.arrow_read.specs.declared.part.Part.{Part}
 use Rattle.arrow_read.specs.Tables.{head_in, later_header}
 use Rattle.arrow_read.specs.Columns.{ColumnView, rows_of}
 use Rattle.arrow_read.specs.Reading.{◌>>=◌, or_fault, metadata_size, metadata_at, body_at, if_plain, columns_in, batch_at, one_more, mark_or_batch, next_batch, and_more, batches_to, batches_from, gathered}
-use Rattle.arrow_read.proofs.Chains.{bind_ok, fault_ok}
+use Rattle.arrow_read.proofs.Chains.{same_Ok, bind_ok, fault_ok}
+use Rattle.arrow_read.proofs.MessageLaws.{body_stands}
 
 -- what is read of a batch's message
 pub record BatchIs (bytes : List ℕ) (schema : Schema) (at size : ℕ) (part : Part) : Type 0 where
@@ -28,16 +28,13 @@ pub record BatchIs (bytes : List ℕ) (schema : Schema) (at size : ℕ) (part : 
   pub columns_are : columns_in batch body 0 0 schema.0 ≡ Ok columns
   pub part_is : record { columns = columns; count = batch.count; next = at + 8 + size + head.body } ≡ part
 
-plain_is : (header : Option BatchTables) (batch : BatchTables) → if_plain header ≡ Ok batch → (header ≡ Some batch) × (batch.compressed ≡ false)
+pub plain_is : (header : Option BatchTables) (batch : BatchTables) → if_plain header ≡ Ok batch → (header ≡ Some batch) × (batch.compressed ≡ false)
 plain_is None batch h = absurd (cc)
 plain_is (Some b) batch h = by_test b.compressed refl h
   where
     by_test : (c : Bool) → b.compressed ≡ c → cond c (Err Compressed) (Ok b) ≡ Ok batch → (Some b ≡ Some batch) × (batch.compressed ≡ false)
     by_test true e k = absurd (cc)
     by_test false e k = let same : b ≡ batch = cc in (ap (λ z. Some z) same, ap (λ (z : BatchTables). z.compressed) (sym same) ∙ e)
-
-inside_Ok : {A : Type 0} → (x y : A) → (let r : Result A ArrowFault = Ok x in r) ≡ Ok y → x ≡ y
-inside_Ok x y e = cc
 
 pub batch_is : (bytes : List ℕ) (schema : Schema) (at size : ℕ) (part : Part) → batch_at bytes schema at size ≡ Ok part → BatchIs bytes schema at size part
 unfolding batch_at
@@ -58,15 +55,8 @@ batch_is bytes schema at size part h =
       plain = p.1;
       body_is = d.1;
       columns_are = e.1;
-      part_is = inside_Ok _ part e.2;
+      part_is = same_Ok _ part e.2;
     }
-
-pub body_within : (bytes : List ℕ) (at size : ℕ) (body : List ℕ) → body_at bytes at size ≡ Ok body → at + size ≤ length bytes
-body_within bytes at size body h = by_test (leb (at + size) (length bytes)) refl h
-  where
-    by_test : (b : Bool) → leb (at + size) (length bytes) ≡ b → cond b (Ok (take size (drop at bytes))) (Err Truncated) ≡ Ok body → at + size ≤ length bytes
-    by_test true e k = grind (arith, nat_tests)
-    by_test false e k = absurd (cc)
 
 -- what the next batch is
 pub record NextIs (bytes : List ℕ) (schema : Schema) (at : ℕ) (part : Part) : Type 0 where
@@ -98,7 +88,7 @@ progress bytes schema at part h =
     let n = next_is bytes schema at part h in
     let b = batch_is bytes schema at n.size part n.batch in
     let e : at + 8 + n.size + b.head.body ≡ part.next = ap (λ (p : Part). p.next) b.part_is in
-    let w : at + 8 + n.size + b.head.body ≤ length bytes = body_within bytes (at + 8 + n.size) b.head.body b.body b.body_is in
+    let w : at + 8 + n.size + b.head.body ≤ length bytes = (body_stands bytes (at + 8 + n.size) b.head.body b.body b.body_is).2 in
     (omega arith, omega arith)
 
 -- more than enough changes nothing

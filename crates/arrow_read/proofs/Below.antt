@@ -1,14 +1,9 @@
 -- Tests, misses and faults of the numbers below one.
 use Rattle.std.proofs.Common.{◌≡◌, ℕ, zero, suc, ◌+◌, ◌<◌, ◌⊎◌, inl, inr, Bool, true, false, cond, ◌&&◌, Option, None, Some, arith, refl, ap, ◌∙◌, subst, sym}
 use Rattle.std.specs.Prelude.{is_some, option_map}
-use Rattle.std.proofs.lemmas.Bool.{cases_lt}
+use Rattle.std.proofs.lemmas.Bool.{both_ways, cases_lt, and_parts, false_from_ne_true}
 use Rattle.arrow_read.specs.declared.fault.ArrowFault.{ArrowFault}
 use Rattle.arrow_read.specs.Columns.{all_below, misses_below, later, first_fault}
-
-both : (a b : Bool) → (a && b) ≡ true → (a ≡ true) × (b ≡ true)
-both true true h = (refl, refl)
-both true false h = absurd (cc)
-both false b h = absurd (cc)
 
 -- a number below the next one is below this one or is it
 split : (i n : ℕ) → i < suc n → (i < n) ⊎ (i ≡ n)
@@ -17,7 +12,7 @@ split i n h = elim (cases_lt i n) [ inl l ↦ inl l | inr l ↦ inr (omega arith
 pub all_below_at : (n : ℕ) (test : ℕ → Bool) → all_below n test ≡ true → (i : ℕ) → i < n → test i ≡ true
 all_below_at zero test h i l = absurd (omega arith)
 all_below_at (suc n) test h i l =
-    let parts = both (all_below n test) (test n) h in
+    let parts = and_parts (all_below n test) (test n) h in
     elim (split i n l) [ inl below ↦ all_below_at n test parts.0 i below | inr here ↦ subst (λ (k : ℕ). test k ≡ true) (sym here) parts.1 ]
 
 pub all_below_from : (n : ℕ) (test : ℕ → Bool) → ((i : ℕ) → i < n → test i ≡ true) → all_below n test ≡ true
@@ -29,14 +24,7 @@ pub all_below_step : (n : ℕ) (test : ℕ → Bool) → all_below n test ≡ tr
 all_below_step n test h t = let next : n + 1 ≡ suc n = omega arith in rw next (rw h t)
 
 pub all_below_miss : (n : ℕ) (test : ℕ → Bool) (i : ℕ) → i < n → test i ≡ false → all_below n test ≡ false
-all_below_miss n test i l f = none (all_below n test) refl
-  where
-    true_is_false : true ≡ false → ⊥
-    true_is_false e = cc
-
-    none : (b : Bool) → all_below n test ≡ b → all_below n test ≡ false
-    none true e = absurd (true_is_false (sym (all_below_at n test e i l) ∙ f))
-    none false e = e
+all_below_miss n test i l f = false_from_ne_true (all_below n test) (λ e. both_ways (test i) f (all_below_at n test e i l))
 
 pub misses_step : (n : ℕ) (test : ℕ → Bool) → misses_below (n + 1) test ≡ misses_below n test + cond (test n) 0 1
 misses_step n test = let next : n + 1 ≡ suc n = omega arith in rw next refl

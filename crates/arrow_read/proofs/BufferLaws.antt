@@ -1,9 +1,10 @@
 -- Pairs, buffers, bits, numbers and texts are read exactly where they stand.
-use Rattle.std.proofs.Common.{◌≡◌, ℕ, suc, ◌+◌, ◌-◌, ◌*◌, ◌/◌, ◌%◌, ◌<◌, ◌≤◌, inl, inr, Bool, true, false, cond, eqb, ltb, leb, ◌&&◌, ◌||◌, List, [], ◌∷◌, length, take, drop, Option, None, Some, Result, Ok, Err, arith, refl, ap, ◌∙◌, subst, sym, length-take, length-drop}
+use Rattle.std.proofs.Common.{◌≡◌, ℕ, suc, ◌+◌, ◌-◌, ◌*◌, ◌/◌, ◌%◌, ◌<◌, ◌≤◌, inl, inr, Bool, true, false, cond, ltb, leb, ◌&&◌, ◌||◌, List, [], ◌∷◌, length, take, drop, Option, None, Some, Result, Ok, Err, arith, refl, ap, ◌∙◌, subst, sym, length-take, length-drop}
 use Rattle.std.specs.Prelude.{ℤ, pos, unwrap_or, is_some, slice_index}
 use Rattle.std.specs.Result.{result_ok}
 use Rattle.std.specs.Int.{w32, w64, bit_at, from_le_bytes, cast_signed}
-use Rattle.std.proofs.lemmas.Bool.Decides.{nat_tests}
+use Rattle.std.proofs.lemmas.Bool.{ltb-true, leb-true, eqb-true, lt-ltb, le-leb, ne_eqb, and_parts, false_from_ne_true}
+use Rattle.std.proofs.lemmas.Option.{same_Some}
 use Rattle.flat_tables.specs.declared.fault.FlatFault.{FlatFault}
 use Rattle.flat_tables.specs.Views.{TableView, VectorView}
 use Rattle.flat_tables.specs.declared.fault.FlatFault.TheVariants.{OutOfRange}
@@ -12,34 +13,9 @@ use Rattle.arrow_ipc.specs.Holds.{PairIs, BufferAt, IsBitOf, IsPresent, TextStan
 use Rattle.arrow_read.specs.declared.pair.Pair.{Pair}
 use Rattle.arrow_read.specs.Tables.{not_negative}
 use Rattle.arrow_read.specs.Columns.{pair_in, pair_at, span_of, buffer_at, bit_in, is_present, number_4, number_8, text_between, text_at, has_4s, has_8s, is_text_place, all_below}
-use Rattle.arrow_read.proofs.Chains.{ok_of, not_negative_is, is_not_negative}
-use Rattle.arrow_read.proofs.Steps.{bind_some}
+use Rattle.arrow_read.proofs.Chains.{same_Ok, ok_of, not_negative_is, is_not_negative}
+use Rattle.arrow_read.proofs.Steps.{bind_some, only_if}
 use Rattle.arrow_read.proofs.Below.{all_below_at, all_below_from}
-
-inside_Some : {A : Type 0} → (x y : A) → Some x ≡ Some y → x ≡ y
-inside_Some x y e = cc
-
-pub is_below : (n m : ℕ) → leb n m ≡ true → n ≤ m
-is_below n m h = grind (arith, nat_tests)
-
-pub below_is : (n m : ℕ) → n ≤ m → leb n m ≡ true
-below_is n m h = grind (arith, nat_tests)
-
-pub less_is : (n m : ℕ) → n < m → ltb n m ≡ true
-less_is n m h = grind (arith, nat_tests)
-
-is_less : (n m : ℕ) → ltb n m ≡ true → n < m
-is_less n m h = grind (arith, nat_tests)
-
--- what is there only where a test holds
-pub only_if : {A : Type 0} → (b : Bool) (o : Option A) (y : A) → cond b o None ≡ Some y → (b ≡ true) × (o ≡ Some y)
-only_if true o y h = (refl, h)
-only_if false o y h = absurd (cc)
-
-pub both : (a b : Bool) → (a && b) ≡ true → (a ≡ true) × (b ≡ true)
-both true true h = (refl, refl)
-both true false h = absurd (cc)
-both false b h = absurd (cc)
 
 -- ---- pairs
 
@@ -54,9 +30,9 @@ in_pair v place pair h =
     let t = only_if (ltb place v.count) _ pair h in
     let (a, ea, k1) = bind_some (result_ok (i64_at (item_bytes v place) 0)) _ pair t.1 in
     let (b, eb, k2) = bind_some (result_ok (i64_at (item_bytes v place) 8)) _ pair k1 in
-    let same : record { first = a; second = b } ≡ pair = inside_Some (record { first = a; second = b }) pair k2 in
+    let same : record { first = a; second = b } ≡ pair = same_Some (record { first = a; second = b }) pair k2 in
     subst (InPair v place) same (record {
-      within = is_less place v.count t.0;
+      within = ltb-true place v.count t.0;
       first_is = ok_of (i64_at (item_bytes v place) 0) a ea;
       second_is = ok_of (i64_at (item_bytes v place) 8) b eb;
     })
@@ -68,16 +44,13 @@ pair_read r (Some v) place pair a b e h ea eb =
     (v, e, p.within, p.first_is ∙ ap (λ z. Ok z) ea, p.second_is ∙ ap (λ z. Ok z) eb)
 
 pub one_vector : (r : Result (Option VectorView) FlatFault) (o : Option VectorView) (v : VectorView) → r ≡ Ok o → r ≡ Ok (Some v) → o ≡ Some v
-one_vector r o v e f = inside_Ok o (Some v) (sym e ∙ f)
-  where
-    inside_Ok : (x y : Option VectorView) → (let s : Result (Option VectorView) FlatFault = Ok x in s) ≡ Ok y → x ≡ y
-    inside_Ok x y g = cc
+one_vector r o v e f = same_Ok o (Some v) (sym e ∙ f)
 
 pub pair_made : (r : Result (Option VectorView) FlatFault) (o : Option VectorView) (place a b : ℕ) → r ≡ Ok o → PairIs r place a b → pair_at o place ≡ Some (record { first = pos a; second = pos b })
 unfolding pair_in
 pair_made r o place a b e p =
     let same : o ≡ Some p.0 = one_vector r o p.0 e p.1 in
-    rw (same, less_is place p.0.count p.2, p.3, p.4) refl
+    rw (same, lt-ltb place p.0.count p.2, p.3, p.4) refl
 
 -- ---- buffers
 
@@ -94,8 +67,8 @@ in_body body span bytes h =
     let (offset, eo, k1) = bind_some (not_negative span.first) _ bytes h in
     let (size, es, k2) = bind_some (not_negative span.second) _ bytes k1 in
     let t = only_if (leb (offset + size) (length body)) _ bytes k2 in
-    let same : take size (drop offset body) ≡ bytes = inside_Some (take size (drop offset body)) bytes t.1 in
-    let w : offset + size ≤ length body = is_below (offset + size) (length body) t.0 in
+    let same : take size (drop offset body) ≡ bytes = same_Some (take size (drop offset body)) bytes t.1 in
+    let w : offset + size ≤ length body = leb-true (offset + size) (length body) t.0 in
     let taken : length (take size (drop offset body)) ≡ size = omega (arith, length-take size (drop offset body), length-drop offset body) in
     let long : length bytes ≡ size = ap length (sym same) ∙ taken in
     record {
@@ -122,62 +95,52 @@ pub buffer_made : (t : TableView) (spans : Option VectorView) (body : List ℕ) 
 unfolding buffer_at span_of
 buffer_made t spans body number bytes e b =
     rw (pair_made (vector_field t 2 16) spans number b.offset (length bytes) e b.span)
-    (rw (is_not_negative b.offset, is_not_negative (length bytes), below_is (b.offset + length bytes) (length body) b.within) (ap (λ z. Some z) b.bytes))
+    (rw (is_not_negative b.offset, is_not_negative (length bytes), le-leb (b.offset + length bytes) (length body) b.within) (ap (λ z. Some z) b.bytes))
 
 -- ---- bits
 
-same_nat : (n m : ℕ) → eqb n m ≡ true → n ≡ m
-same_nat n m h = grind (arith, nat_tests)
-
 pub bit_is : (bits : List ℕ) (row : ℕ) → bit_in bits row ≡ true → IsBitOf bits row
-bit_is bits row h = same_nat (bit_at (slice_index bits (row / 8)) (row % 8)) 1 h
+bit_is bits row h = eqb-true (bit_at (slice_index bits (row / 8)) (row % 8)) 1 h
 
 pub is_bit : (bits : List ℕ) (row : ℕ) → IsBitOf bits row → bit_in bits row ≡ true
 is_bit bits row h = rw h refl
 
-some_bytes : (n : ℕ) → eqb (suc n) 0 ≡ false
-some_bytes n = grind (arith, nat_tests)
-
 pub present_is : (validity : List ℕ) (row : ℕ) → is_present validity row ≡ true → IsPresent validity row
 present_is [] row h = inl refl
-present_is (byte ∷ bytes) row h = inr (bit_is (byte ∷ bytes) row (ap (λ (b : Bool). b || bit_in (byte ∷ bytes) row) (sym (some_bytes (length bytes))) ∙ h))
+present_is (byte ∷ bytes) row h = inr (bit_is (byte ∷ bytes) row (ap (λ (b : Bool). b || bit_in (byte ∷ bytes) row) (sym (ne_eqb (suc (length bytes)) 0 (λ e. omega arith))) ∙ h))
 
 pub is_present_of : (validity : List ℕ) (row : ℕ) → IsPresent validity row → is_present validity row ≡ true
 is_present_of validity row (inl e) = rw e refl
 is_present_of [] row (inr b) = refl
-is_present_of (byte ∷ bytes) row (inr b) = ap (λ (t : Bool). t || bit_in (byte ∷ bytes) row) (some_bytes (length bytes)) ∙ is_bit (byte ∷ bytes) row b
+is_present_of (byte ∷ bytes) row (inr b) = ap (λ (t : Bool). t || bit_in (byte ∷ bytes) row) (ne_eqb (suc (length bytes)) 0 (λ e. omega arith)) ∙ is_bit (byte ∷ bytes) row b
 
 pub absent_is : (validity : List ℕ) (row : ℕ) → is_present validity row ≡ false → ¬ (IsPresent validity row)
 absent_is validity row h p = let yes = is_present_of validity row p in absurd (cc)
 
 pub is_absent_of : (validity : List ℕ) (row : ℕ) → ¬ (IsPresent validity row) → is_present validity row ≡ false
-is_absent_of validity row h = by_test (is_present validity row) refl
-  where
-    by_test : (b : Bool) → is_present validity row ≡ b → is_present validity row ≡ false
-    by_test true e = absurd (h (present_is validity row e))
-    by_test false e = e
+is_absent_of validity row h = false_from_ne_true (is_present validity row) (λ e. h (present_is validity row e))
 
 -- ---- numbers
 
 pub i32_inside : (b : List ℕ) (at : ℕ) → at + 4 ≤ length b → (z : ℤ) × (i32_at b at ≡ Ok z)
 unfolding i32_at
 i32_inside b at h =
-    let t : leb (at + 4) (length b) ≡ true = below_is (at + 4) (length b) h in (cast_signed w32 (from_le_bytes w32 (take 4 (drop at b))), rw t refl)
+    let t : leb (at + 4) (length b) ≡ true = le-leb (at + 4) (length b) h in (cast_signed w32 (from_le_bytes w32 (take 4 (drop at b))), rw t refl)
 
 pub i64_inside : (b : List ℕ) (at : ℕ) → at + 8 ≤ length b → (z : ℤ) × (i64_at b at ≡ Ok z)
 unfolding i64_at
 i64_inside b at h =
-    let t : leb (at + 8) (length b) ≡ true = below_is (at + 8) (length b) h in (cast_signed w64 (from_le_bytes w64 (take 8 (drop at b))), rw t refl)
+    let t : leb (at + 8) (length b) ≡ true = le-leb (at + 8) (length b) h in (cast_signed w64 (from_le_bytes w64 (take 8 (drop at b))), rw t refl)
 
 pub integer_there : (numbers : List ℕ) (count row : ℕ) → has_4s count numbers ≡ true → row < count → i32_at numbers (4 * row) ≡ Ok (unwrap_or (number_4 numbers row) (pos 0))
 integer_there numbers count row h l =
-    let long : 4 * count ≤ length numbers = is_below (4 * count) (length numbers) h in
+    let long : 4 * count ≤ length numbers = leb-true (4 * count) (length numbers) h in
     let z = i32_inside numbers (4 * row) (omega arith) in
     z.1 ∙ ap (λ (r : Result ℤ FlatFault). let s : Result ℤ FlatFault = Ok (unwrap_or (result_ok r) (pos 0)) in s) (sym z.1)
 
 pub long_there : (numbers : List ℕ) (count row : ℕ) → has_8s count numbers ≡ true → row < count → i64_at numbers (8 * row) ≡ Ok (unwrap_or (number_8 numbers row) (pos 0))
 long_there numbers count row h l =
-    let long : 8 * count ≤ length numbers = is_below (8 * count) (length numbers) h in
+    let long : 8 * count ≤ length numbers = leb-true (8 * count) (length numbers) h in
     let z = i64_inside numbers (8 * row) (omega arith) in
     z.1 ∙ ap (λ (r : Result ℤ FlatFault). let s : Result ℤ FlatFault = Ok (unwrap_or (result_ok r) (pos 0)) in s) (sym z.1)
 
@@ -191,7 +154,7 @@ text_stands offsets texts row text h =
     let (from, ea, k3) = bind_some (not_negative first) _ text k2 in
     let (to, eb, k4) = bind_some (not_negative second) _ text k3 in
     let t = only_if (leb from to && leb to (length texts)) _ text k4 in
-    let b = both (leb from to) (leb to (length texts)) t.0 in
+    let b = and_parts (leb from to) (leb to (length texts)) t.0 in
     let from_is : i32_at offsets (4 * row) ≡ Ok (pos from) = ok_of (i32_at offsets (4 * row)) first ef ∙ ap (λ z. Ok z) (not_negative_is first from ea) in
     let to_is : i32_at offsets (4 * (row + 1)) ≡ Ok (pos to) = ok_of (i32_at offsets (4 * (row + 1))) second es ∙ ap (λ z. Ok z) (not_negative_is second to eb) in (
       record {
@@ -199,17 +162,17 @@ text_stands offsets texts row text h =
         to = to;
         from_is = from_is;
         to_is = to_is;
-        rises = is_below from to b.0;
-        bytes = inside_Some (take (to - from) (drop from texts)) text t.1;
+        rises = leb-true from to b.0;
+        bytes = same_Some (take (to - from) (drop from texts)) text t.1;
       },
-      (to, to_is, is_below to (length texts) b.1),
+      (to, to_is, leb-true to (length texts) b.1),
     )
 
 pub text_made : (offsets texts : List ℕ) (row from to : ℕ) → i32_at offsets (4 * row) ≡ Ok (pos from) → i32_at offsets (4 * (row + 1)) ≡ Ok (pos to) → from ≤ to → to ≤ length texts
     → text_at offsets texts row ≡ Some (take (to - from) (drop from texts))
 unfolding text_at text_between
 text_made offsets texts row from to ef et l w =
-    rw (ef, et) (rw (is_not_negative from, is_not_negative to, below_is from to l, below_is to (length texts) w) refl)
+    rw (ef, et) (rw (is_not_negative from, is_not_negative to, le-leb from to l, le-leb to (length texts) w) refl)
 
 -- one of the two offsets of a text
 pub one_offset : (r : Result ℤ FlatFault) (a b : ℕ) → r ≡ Ok (pos a) → r ≡ Ok (pos b) → a ≡ b
@@ -235,5 +198,5 @@ unfolding i32_at
 within_of b at z h = by_test (leb (at + 4) (length b)) refl h
   where
     by_test : (t : Bool) → leb (at + 4) (length b) ≡ t → (cond t (Ok (take 4 (drop at b))) (Err (OutOfRange at)) >>= λ bytes. Ok (cast_signed w32 (from_le_bytes w32 bytes))) ≡ Ok z → at + 4 ≤ length b
-    by_test true e k = is_below (at + 4) (length b) e
+    by_test true e k = leb-true (at + 4) (length b) e
     by_test false e k = absurd (cc)

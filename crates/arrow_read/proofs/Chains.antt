@@ -1,4 +1,4 @@
--- What a chain of steps says of each step.
+-- What a chain of steps says of each step, and that equal answers hold the same.
 use Rattle.std.proofs.Common.{◌≡◌, ℕ, Bool, true, false, cond, Option, None, Some, Result, Ok, Err, arith, refl, ap, ◌∙◌}
 use Rattle.std.specs.Prelude.{ℤ, pos, negsuc, unwrap_or, nat_abs, int_lt}
 use Rattle.std.specs.Result.{result_ok}
@@ -9,6 +9,12 @@ use Rattle.arrow_ipc.specs.Holds.{or_absent}
 use Rattle.arrow_read.specs.declared.fault.ArrowFault.{ArrowFault}
 use Rattle.arrow_read.specs.Tables.{not_negative}
 use Rattle.arrow_read.specs.Reading.{◌>>=◌, or_fault}
+
+pub same_Ok : {A E : Type 0} → (x y : A) → (let r : Result A E = Ok x in r) ≡ Ok y → x ≡ y
+same_Ok x y h = cc
+
+pub same_Err : {A E : Type 0} → (x y : E) → (let r : Result A E = Err x in r) ≡ Err y → x ≡ y
+same_Err x y h = cc
 
 pub bind_ok : {A B : Type 0} → (r : Result A ArrowFault) (f : A → Result B ArrowFault) (y : B) → (r >>= f) ≡ Ok y → (x : A) × (r ≡ Ok x) × (f x ≡ Ok y)
 bind_ok (Ok x) f y h = (x, refl, h)
@@ -24,10 +30,6 @@ ok_of (Err e) x h = absurd (cc)
 
 pub of_ok : {A : Type 0} → (r : Result A FlatFault) (x : A) → r ≡ Ok x → result_ok r ≡ Some x
 of_ok r x h = ap result_ok h
-
-pub guarded : {A : Type 0} → (b : Bool) (x y : A) → cond b (Some x) None ≡ Some y → (b ≡ true) × (x ≡ y)
-guarded true x y h = let same : x ≡ y = cc in (refl, same)
-guarded false x y h = absurd (cc)
 
 -- a field that may be absent
 pub or_absent_is : {A : Type 0} → (d : A) (r : Result (Option A) FlatFault) (o : Option A) (x : A) → r ≡ Ok o → unwrap_or o d ≡ x → or_absent d r ≡ Ok x

@@ -1,7 +1,8 @@
 -- A column's fault is the first one in the order of the format's tests.
 use Rattle.std.proofs.Common.{◌≡◌, ℕ, zero, suc, ◌+◌, ◌*◌, ◌<◌, ◌≤◌, ◌⊎◌, inl, inr, Bool, true, false, cond, List, [], ◌∷◌, length, Option, None, Some, Result, Ok, Err, arith, refl, ap, ◌∙◌, subst, sym}
 use Rattle.std.specs.Prelude.{ℤ, pos, unwrap_or, is_some, IsUtf8}
-use Rattle.std.proofs.lemmas.Bool.Decides.{nat_tests}
+use Rattle.std.proofs.lemmas.Bool.{both_ways, lt-ltb}
+use Rattle.std.proofs.lemmas.Option.{same_Some}
 use Rattle.cn_types.specs.Fit.{IsDay}
 use Rattle.cn_types.specs.declared.value.DataType.{DataType}
 use Rattle.cn_types.specs.declared.value.DataType.TheVariants as K
@@ -14,19 +15,18 @@ use Rattle.arrow_read.specs.declared.fault.ArrowFault.TheVariants.{BadLength, Ba
 use Rattle.arrow_read.specs.declared.pair.Pair.{Pair}
 use Rattle.arrow_read.specs.declared.batch.BatchTables.{BatchTables}
 use Rattle.arrow_read.specs.Tables.{utf8}
-use Rattle.arrow_read.specs.Columns.{ColumnView, pair_in, pair_at, is_present, number_4, text_at, utf8_at, buffers_in, is_text_place, is_long_enough, is_number, nulls_of, is_sound, is_day, text_fault, date_fault, row_fault, later, first_fault}
+use Rattle.arrow_read.specs.Columns.{ColumnView, pair_in, pair_at, is_present, number_4, text_at, utf8_at, buffers_in, is_text_place, is_long_enough, nulls_of, is_sound, is_day, text_fault, date_fault, row_fault, later, first_fault}
 use Rattle.arrow_read.specs.Reading.{◌>>=◌, or_fault, if_sound, if_values, column_in, columns_in}
 use Rattle.arrow_read.specs.ColumnFaults.{NodeSays, BuffersSay, CellFaulty, ColumnFaulty, ColumnsFaulty, ColumnFaultsAreFirst}
 use Rattle.arrow_read.specs.ColumnFaults.{bad_length, bad_buffer, bad_row}
+use Rattle.arrow_read.proofs.Chains.{fault_ok}
+use Rattle.arrow_read.proofs.Steps.{only_if}
 use Rattle.arrow_read.proofs.Below.{all_below_at, no_fault_at, no_fault_from, fault_at}
 use Rattle.arrow_read.proofs.Texts.{is_utf8-false, is_utf8_text}
-use Rattle.arrow_read.proofs.BufferLaws.{in_pair, one_vector, less_is, buffer_read, buffer_made, present_is, is_present_of, integer_there, text_stands, text_made, one_offset}
+use Rattle.arrow_read.proofs.BufferLaws.{in_pair, one_vector, buffer_read, buffer_made, present_is, is_present_of, integer_there, text_stands, text_made, one_offset}
 use Rattle.arrow_read.proofs.ColumnLaws.{others, column_of, day_is, is_day_of}
 use Rattle.arrow_read.proofs.RowLaws.{batch_is}
-use Rattle.arrow_read.proofs.ColumnsHold.{TablesAre, NodeIs, node_is, buffers_are, others_at, others_are, values_made, long_enough, is_long, sound_parts, parts_sound}
-
-inside_Some : {A : Type 0} → (x y : A) → Some x ≡ Some y → x ≡ y
-inside_Some x y e = cc
+use Rattle.arrow_read.proofs.ColumnsHold.{TablesAre, sound_is, NodeIs, node_is, buffers_are, others_at, others_are, values_made, long_enough, is_long, sound_parts, same_number, parts_sound}
 
 pub bind_err : {A B : Type 0} → (r : Result A ArrowFault) (f : A → Result B ArrowFault) (e : ArrowFault) → (r >>= f) ≡ Err e → (r ≡ Err e) ⊎ ((x : A) × (r ≡ Ok x) × (f x ≡ Err e))
 bind_err (Ok x) f e h = inr (x, refl, h)
@@ -35,10 +35,6 @@ bind_err {A} (Err d) f e h = inl (let same : d ≡ e = cc in ap (λ (z : ArrowFa
 pub fault_err : {A : Type 0} → (e : ArrowFault) (o : Option A) (f : ArrowFault) → or_fault e o ≡ Err f → (o ≡ None) × (e ≡ f)
 fault_err e None f h = let same : e ≡ f = cc in (refl, same)
 fault_err e (Some x) f h = absurd (cc)
-
-pub fault_ok : {A : Type 0} → (e : ArrowFault) (o : Option A) (x : A) → or_fault e o ≡ Ok x → o ≡ Some x
-fault_ok e (Some y) x h = let same : y ≡ x = cc in ap (λ z. Some z) same
-fault_ok e None x h = absurd (cc)
 
 -- ---- the node
 
@@ -55,10 +51,7 @@ said_node : (t : TableView) (batch : BatchTables) (place count : ℕ) (nulls : �
 unfolding pair_in
 said_node t batch place count nulls tables n =
     let same : batch.nodes ≡ Some n.vector = one_vector (vector_field t 1 16) batch.nodes n.vector tables.nodes_are n.vector_is in
-    rw (same, less_is place n.vector.count n.within, n.length_is, n.nulls_is) (rw (same_number count) refl)
-  where
-    same_number : (k : ℕ) → is_number (pos k) k ≡ true
-    same_number k = grind (arith, nat_tests)
+    rw (same, lt-ltb place n.vector.count n.within, n.length_is, n.nulls_is) (rw (same_number count) refl)
 
 -- ---- the buffers
 
@@ -161,25 +154,21 @@ some_text : (o : Option (List ℕ)) → is_some o ≡ true → (text : List ℕ)
 some_text (Some text) h = (text, refl)
 some_text None h = absurd (cc)
 
-present_fault : {A : Type 0} → (b : Bool) (o : Option A) (f : A) → cond b o None ≡ Some f → (b ≡ true) × (o ≡ Some f)
-present_fault true o f h = (refl, h)
-present_fault false o f h = absurd (cc)
-
 cell_faulty : (kind : DataType) (validity values texts : List ℕ) (place count row : ℕ) (f : ArrowFault) → row < count → is_long_enough count (column_of kind validity values texts) ≡ true
     → row_fault place (column_of kind validity values texts) row ≡ Some f → CellFaulty kind validity (others kind values texts) place row f
 unfolding row_fault is_long_enough
-cell_faulty K.Boolean va vs ts place count row f l long h = let p = present_fault (is_present va row) None f h in absurd (cc)
-cell_faulty K.Integer va vs ts place count row f l long h = let p = present_fault (is_present va row) None f h in absurd (cc)
-cell_faulty K.Long va vs ts place count row f l long h = let p = present_fault (is_present va row) None f h in absurd (cc)
+cell_faulty K.Boolean va vs ts place count row f l long h = let p = only_if (is_present va row) None f h in absurd (cc)
+cell_faulty K.Integer va vs ts place count row f l long h = let p = only_if (is_present va row) None f h in absurd (cc)
+cell_faulty K.Long va vs ts place count row f l long h = let p = only_if (is_present va row) None f h in absurd (cc)
 cell_faulty K.Text va vs ts place count row f l long h =
-    let p = present_fault (is_present va row) (text_fault place row (utf8_at vs ts row)) f h in
+    let p = only_if (is_present va row) (text_fault place row (utf8_at vs ts row)) f h in
     let n = no_text place row (utf8_at vs ts row) f p.1 in
     let text = some_text (text_at vs ts row) (all_below_at count (is_text_place vs ts) long row l) in
     let s = text_stands vs ts row text.0 text.1 in
     (present_is va row p.0, (text.0, s.0, not_utf8_is text.0 (text_no_utf8 vs ts row text.0 text.1 n.0), n.1))
 cell_faulty K.Date va vs ts place count row f l long h =
     let days : ℤ = unwrap_or (number_4 vs row) (pos 0) in
-    let p = present_fault (is_present va row) (date_fault place row days) f h in
+    let p = only_if (is_present va row) (date_fault place row days) f h in
     let n = no_day place row days f p.1 in
     (present_is va row p.0, (days, integer_there vs count row long l, n.0, n.1))
 
@@ -227,19 +216,9 @@ sound_err count nulls place column f h = by_test (is_sound count nulls column) r
     by_test true e k = absurd (cc)
     by_test false e k = let same : BadBuffer place ≡ f = cc in (e, same)
 
-sound_ok : (count : ℕ) (nulls : ℤ) (place : ℕ) (column found : ColumnView) → if_sound count nulls place column ≡ Ok found → (column ≡ found) × (is_sound count nulls column ≡ true)
-sound_ok count nulls place column found h = by_test (is_sound count nulls column) refl h
-  where
-    by_test : (b : Bool) → is_sound count nulls column ≡ b → cond b (Ok column) (Err (BadBuffer place)) ≡ Ok found → (column ≡ found) × (is_sound count nulls column ≡ true)
-    by_test true e k = let same : column ≡ found = cc in (same, e)
-    by_test false e k = absurd (cc)
-
 values_err : (column : ColumnView) (o : Option ArrowFault) (f : ArrowFault) → if_values column o ≡ Err f → o ≡ Some f
 values_err column None f h = absurd (cc)
 values_err column (Some g) f h = let same : g ≡ f = cc in ap (λ z. Some z) same
-
-true_is_false : (b : Bool) → b ≡ true → b ≡ false → ⊥
-true_is_false b e f = cc
 
 -- buffers that aren't sound, whatever they are
 no_buffers : (t : TableView) (batch : BatchTables) (body : List ℕ) (count first : ℕ) (kind : DataType) (nulls : ℤ) (o : Option ColumnView) → TablesAre t batch → buffers_in batch body first kind ≡ o
@@ -283,10 +262,10 @@ faulty t batch body place first kind f tables h =
                       let g = sound_err batch.count nulls place column f e in
                       subst (ColumnFaulty t body batch.count place first kind) g.1
                       (bad_buffer nulls says (no_buffers t batch body batch.count first kind nulls (Some column) tables b
-                      (λ other k s. true_is_false (is_sound batch.count nulls column) (subst (λ (c : ColumnView). is_sound batch.count nulls c ≡ true) (sym (inside_Some column other k)) s) g.0)))
+                      (λ other k s. both_ways (is_sound batch.count nulls column) g.0 (subst (λ (c : ColumnView). is_sound batch.count nulls c ≡ true) (sym (same_Some column other k)) s))))
                   | inr more2 ↦
                       let (found, es, h3) = more2 in
-                      let s = sound_ok batch.count nulls place column found es in
+                      let s = sound_is batch.count nulls place column found es in
                       let v : first_fault batch.count (row_fault place found) ≡ Some f = values_err found (first_fault batch.count (row_fault place found)) f h3 in
                       row_faulty t batch body place first kind nulls column f tables n b s.1 (subst (λ (c : ColumnView). first_fault batch.count (row_fault place c) ≡ Some f) (sym s.0) v)
                 ]

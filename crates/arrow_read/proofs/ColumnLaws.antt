@@ -1,6 +1,8 @@
 -- A column is read exactly where its buffers hold it.
 use Rattle.std.proofs.Common.{◌≡◌, ℕ, ◌+◌, ◌*◌, ◌<◌, ◌≤◌, Bool, true, false, cond, ◌&&◌, List, [], ◌∷◌, length, Option, None, Some, arith, refl, ap, ◌∙◌, subst, sym}
-use Rattle.std.specs.Prelude.{ℤ, pos, negsuc, unwrap_or, IsTrue, IsUtf8, ◌≤ℤ◌, int_le, if◌then◌else◌}
+use Rattle.std.specs.Prelude.{ℤ, pos, negsuc, unwrap_or, IsUtf8, ◌≤ℤ◌, int_le, if◌then◌else◌}
+use Rattle.std.specs.Cmp.{both_ways}
+use Rattle.std.proofs.lemmas.Bool.{leb-true, le-leb, and_parts}
 use Rattle.std.proofs.lemmas.Int.{ints}
 use Rattle.cn_types.specs.Fit.{IsDay}
 use Rattle.cn_types.specs.declared.value.Value.{Value}
@@ -15,7 +17,7 @@ use Rattle.arrow_read.specs.Tables.{utf8}
 use Rattle.arrow_read.specs.Columns.{ColumnView, bit_in, is_present, number_4, text_at, utf8_at, text_value, value_in, cell, is_long_enough, is_day, text_fault, date_fault, row_fault}
 use Rattle.arrow_read.proofs.Steps.{bind_some}
 use Rattle.arrow_read.proofs.Texts.{utf8_is, is_utf8_text}
-use Rattle.arrow_read.proofs.BufferLaws.{both, is_below, below_is, bit_is, is_bit, present_is, is_present_of, absent_is, is_absent_of, integer_there, long_there, text_stands, text_made, one_offset}
+use Rattle.arrow_read.proofs.BufferLaws.{bit_is, is_bit, present_is, is_present_of, absent_is, is_absent_of, integer_there, long_there, text_stands, text_made, one_offset}
 
 -- ---- the buffers behind the validity, and the column of all
 
@@ -32,18 +34,18 @@ column_of kind validity values texts = record { kind = kind; validity = validity
 -- ---- days
 
 pub day_is : (z : ℤ) → is_day z ≡ true → IsDay z
-day_is (pos n) h = let t = both (int_le (negsuc 719161) (pos n)) (int_le (pos n) (pos 2932896)) h in (omega (arith, ints), below (is_below n 2932896 t.1))
+day_is (pos n) h = let t = and_parts (int_le (negsuc 719161) (pos n)) (int_le (pos n) (pos 2932896)) h in (omega (arith, ints), below (leb-true n 2932896 t.1))
   where
     below : n ≤ 2932896 → pos n ≤ℤ pos 2932896
     below l = omega (arith, ints)
-day_is (negsuc n) h = let t = both (int_le (negsuc 719161) (negsuc n)) (int_le (negsuc n) (pos 2932896)) h in (above (is_below n 719161 t.0), omega (arith, ints))
+day_is (negsuc n) h = let t = and_parts (int_le (negsuc 719161) (negsuc n)) (int_le (negsuc n) (pos 2932896)) h in (above (leb-true n 719161 t.0), omega (arith, ints))
   where
     above : n ≤ 719161 → negsuc 719161 ≤ℤ negsuc n
     above l = omega (arith, ints)
 
 pub is_day_of : (z : ℤ) → IsDay z → is_day z ≡ true
-is_day_of (pos n) h = let l : n ≤ 2932896 = omega (arith, ints, h.1) in ap (λ (b : Bool). true && b) (below_is n 2932896 l)
-is_day_of (negsuc n) h = let l : n ≤ 719161 = omega (arith, ints, h.0) in ap (λ (b : Bool). b && true) (below_is n 719161 l)
+is_day_of (pos n) h = let l : n ≤ 2932896 = omega (arith, ints, h.1) in ap (λ (b : Bool). true && b) (le-leb n 2932896 l)
+is_day_of (negsuc n) h = let l : n ≤ 719161 = omega (arith, ints, h.0) in ap (λ (b : Bool). b && true) (le-leb n 719161 l)
 
 -- ---- one cell that is read
 
@@ -115,12 +117,6 @@ pub record Reads (place : ℕ) (column : ColumnView) (row : ℕ) (value : Value)
   pub has : has_value value ≡ is_present column.validity row
   pub sound : row_fault place column row ≡ None
 
-same_bool : (a b : Bool) → (IsTrue a → b ≡ true) → (b ≡ true → IsTrue a) → b ≡ a
-same_bool true true f g = refl
-same_bool true false f g = f refl
-same_bool false true f g = sym (g refl)
-same_bool false false f g = refl
-
 -- of a cell that is present
 reads_value : (place : ℕ) (column : ColumnView) (row : ℕ) (value : Value) → is_present column.validity row ≡ true → value_in column row ≡ value → has_value value ≡ true → row_fault place column row ≡ None → Reads place column row value
 unfolding cell
@@ -147,7 +143,7 @@ unfolding value_in row_fault
 reads K.Boolean va vs ts place count row V.Null l long h = reads_null place (column_of K.Boolean va vs ts) row h
 reads K.Boolean va vs ts place count row (V.Boolean b) l long h =
     let p : is_present va row ≡ true = is_present_of va row h.0 in
-    let same : bit_in vs row ≡ b = same_bool b (bit_in vs row) (λ t. is_bit vs row (h.1.0 t)) (λ t. h.1.1 (bit_is vs row t)) in
+    let same : bit_in vs row ≡ b = both_ways (bit_in vs row) b (λ t. h.1.1 (bit_is vs row t)) (λ t. is_bit vs row (h.1.0 t)) in
     reads_value place (column_of K.Boolean va vs ts) row (V.Boolean b) p (ap (λ z. V.Boolean z) same) refl (rw p refl)
 reads K.Boolean va vs ts place count row (V.Integer z) l long h = absurd h.1
 reads K.Boolean va vs ts place count row (V.Long z) l long h = absurd h.1

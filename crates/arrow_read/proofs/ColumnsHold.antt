@@ -1,10 +1,13 @@
 -- A whole column is read exactly where a batch holds it.
-use Rattle.std.proofs.Common.{◌≡◌, ℕ, zero, suc, ◌+◌, ◌*◌, ◌<◌, ◌≤◌, ◌⊎◌, inl, inr, Bool, true, false, not, cond, eqb, ◌&&◌, ◌||◌, List, [], ◌∷◌, length, map, Option, None, Some, Ok, Err, arith, refl, ap, ◌∙◌, subst, sym}
+use Rattle.std.proofs.Common.{◌≡◌, ℕ, zero, suc, get_or, ◌+◌, ◌*◌, ◌<◌, ◌≤◌, ◌⊎◌, inl, inr, Bool, true, false, not, cond, eqb, ◌&&◌, ◌||◌, List, [], ◌∷◌, length, map, Option, None, Some, Ok, Err, arith, refl, ap, ◌∙◌, subst, sym}
 use Rattle.std.specs.Prelude.{ℤ, pos, slice_get}
 use Rattle.std.specs.List.{range_with_len}
+use Rattle.std.proofs.lemmas.Bool.{leb-true, le-leb, ne_eqb, and_parts, or_right}
 use Rattle.std.proofs.lemmas.Bool.Decides.{nat_tests}
+use Rattle.std.proofs.lemmas.Option.{same_Some, slice_get_within, slice_get-get_or}
 use Rattle.std.proofs.lemmas.List.FromFn.{length-map-range_with_len, sum_by-map-range_with_len_more}
 use Rattle.cn_types.specs.declared.value.Value.{Value}
+use Rattle.cn_types.specs.declared.value.Value.TheVariants as V
 use Rattle.cn_types.specs.declared.value.DataType.{DataType}
 use Rattle.cn_types.specs.declared.value.DataType.TheVariants as K
 use Rattle.flat_tables.specs.Views.{TableView, VectorView}
@@ -20,17 +23,14 @@ use Rattle.arrow_read.specs.Reading.{or_fault, if_sound, if_values, column_in}
 use Rattle.arrow_read.proofs.Chains.{bind_ok, fault_ok, same_int}
 use Rattle.arrow_read.proofs.Steps.{bind_some}
 use Rattle.arrow_read.proofs.Below.{no_fault_at, no_fault_from}
-use Rattle.arrow_read.proofs.BufferLaws.{both, is_below, below_is, pair_read, pair_made, buffer_read, buffer_made, offsets_rise, rising_offsets}
+use Rattle.arrow_read.proofs.BufferLaws.{pair_read, pair_made, buffer_read, buffer_made, offsets_rise, rising_offsets}
 use Rattle.arrow_read.proofs.ColumnLaws.{others, column_of, CellIs, cell_is, Reads, reads}
-
-inside_Some : {A : Type 0} → (x y : A) → Some x ≡ Some y → x ≡ y
-inside_Some x y e = cc
 
 -- ---- lists by place
 
 pub made_at : {A : Type 0} → (f : ℕ → A) (start n i : ℕ) (x : A) → slice_get (map f (range_with_len start n)) i ≡ Some x → (i < n) × (f (start + i) ≡ x)
 made_at f start zero i x h = absurd (cc)
-made_at f start (suc n) zero x h = let here : start ≡ start + 0 = omega arith in (omega arith, ap f (sym here) ∙ inside_Some (f start) x h)
+made_at f start (suc n) zero x h = let here : start ≡ start + 0 = omega arith in (omega arith, ap f (sym here) ∙ same_Some (f start) x h)
 made_at f start (suc n) (suc i) x h =
     let r = made_at f (start + 1) n i x h in
     let there : start + suc i ≡ start + 1 + i = omega arith in
@@ -68,7 +68,7 @@ pub record ColumnIs (batch : BatchTables) (body : List ℕ) (place first : ℕ) 
   pub sound : is_sound batch.count nulls column ≡ true
   pub no_fault : first_fault batch.count (row_fault place column) ≡ None
 
-sound_is : (count : ℕ) (nulls : ℤ) (place : ℕ) (column found : ColumnView) → if_sound count nulls place column ≡ Ok found → (column ≡ found) × (is_sound count nulls column ≡ true)
+pub sound_is : (count : ℕ) (nulls : ℤ) (place : ℕ) (column found : ColumnView) → if_sound count nulls place column ≡ Ok found → (column ≡ found) × (is_sound count nulls column ≡ true)
 sound_is count nulls place column found h = by_test (is_sound count nulls column) refl h
   where
     by_test : (b : Bool) → is_sound count nulls column ≡ b → cond b (Ok column) (Err (BadBuffer place)) ≡ Ok found → (column ≡ found) × (is_sound count nulls column ≡ true)
@@ -109,7 +109,7 @@ node_is count None nulls h = absurd (cc)
 node_is count (Some node) nulls h = by_test (is_number node.first count) refl h
   where
     by_test : (b : Bool) → is_number node.first count ≡ b → cond b (Some node.second) None ≡ Some nulls → (found : Pair) × (Some node ≡ Some found) × NodeIs count found nulls
-    by_test true e k = (node, refl, record { count_is = same_int node.first (pos count) e; nulls_are = inside_Some node.second nulls k })
+    by_test true e k = (node, refl, record { count_is = same_int node.first (pos count) e; nulls_are = same_Some node.second nulls k })
     by_test false e k = absurd (cc)
 
 -- ---- its buffers
@@ -129,7 +129,7 @@ buffers_are batch body first kind column h =
     let (validity, ev, h1) = bind_some (buffer_at batch.spans body first) _ column h in
     let (values, en, h2) = bind_some (buffer_at batch.spans body (first + 1)) _ column h1 in
     let (texts, et, h3) = bind_some (texts_of kind (buffer_at batch.spans body (first + 2))) _ column h2 in
-    record { validity = validity; values = values; texts = texts; validity_at = ev; values_at = en; texts_at = et; column_is = inside_Some (column_of kind validity values texts) column h3 }
+    record { validity = validity; values = values; texts = texts; validity_at = ev; values_at = en; texts_at = et; column_is = same_Some (column_of kind validity values texts) column h3 }
 
 pub others_at : (t : TableView) (spans : Option VectorView) (body : List ℕ) (first : ℕ) (kind : DataType) (values texts : List ℕ) → vector_field t 2 16 ≡ Ok spans → buffer_at spans body (first + 1) ≡ Some values
     → texts_of kind (buffer_at spans body (first + 2)) ≡ Some texts → BuffersAt t body (first + 1) (others kind values texts)
@@ -143,19 +143,19 @@ others_at t spans body first K.Date values texts e h k = (buffer_read t spans bo
 
 pub long_enough : (kind : DataType) (validity values texts : List ℕ) (count : ℕ) → is_long_enough count (column_of kind validity values texts) ≡ true → AreLongEnough kind count (others kind values texts)
 unfolding is_long_enough
-long_enough K.Boolean va vs ts count h = is_below count (8 * length vs) h
-long_enough K.Integer va vs ts count h = is_below (4 * count) (length vs) h
-long_enough K.Long va vs ts count h = is_below (8 * count) (length vs) h
+long_enough K.Boolean va vs ts count h = leb-true count (8 * length vs) h
+long_enough K.Integer va vs ts count h = leb-true (4 * count) (length vs) h
+long_enough K.Long va vs ts count h = leb-true (8 * count) (length vs) h
 long_enough K.Text va vs ts count h = offsets_rise count vs ts h
-long_enough K.Date va vs ts count h = is_below (4 * count) (length vs) h
+long_enough K.Date va vs ts count h = leb-true (4 * count) (length vs) h
 
 pub is_long : (kind : DataType) (validity values texts : List ℕ) (count : ℕ) → AreLongEnough kind count (others kind values texts) → is_long_enough count (column_of kind validity values texts) ≡ true
 unfolding is_long_enough
-is_long K.Boolean va vs ts count h = below_is count (8 * length vs) h
-is_long K.Integer va vs ts count h = below_is (4 * count) (length vs) h
-is_long K.Long va vs ts count h = below_is (8 * count) (length vs) h
+is_long K.Boolean va vs ts count h = le-leb count (8 * length vs) h
+is_long K.Integer va vs ts count h = le-leb (4 * count) (length vs) h
+is_long K.Long va vs ts count h = le-leb (8 * count) (length vs) h
 is_long K.Text va vs ts count h = rising_offsets count vs ts h
-is_long K.Date va vs ts count h = below_is (4 * count) (length vs) h
+is_long K.Date va vs ts count h = le-leb (4 * count) (length vs) h
 
 -- the three parts of a sound column
 pub record SoundIs (count : ℕ) (nulls : ℤ) (kind : DataType) (validity values texts : List ℕ) : Type 0 where
@@ -163,34 +163,27 @@ pub record SoundIs (count : ℕ) (nulls : ℤ) (kind : DataType) (validity value
   pub long : is_long_enough count (column_of kind validity values texts) ≡ true
   pub nulls_are : nulls ≡ pos (misses_below count (is_present validity))
 
-some_bytes : (n : ℕ) → eqb (suc n) 0 ≡ false
-some_bytes n = grind (arith, nat_tests)
-
 validity_is : (count : ℕ) (validity : List ℕ) → (eqb (length validity) 0 || has_bits count validity) ≡ true → (validity ≡ []) ⊎ (count ≤ 8 * length validity)
 validity_is count [] h = inl refl
-validity_is count (byte ∷ bytes) h = inr (is_below count (8 * length (byte ∷ bytes)) (ap (λ (b : Bool). b || has_bits count (byte ∷ bytes)) (sym (some_bytes (length bytes))) ∙ h))
+validity_is count (byte ∷ bytes) h = inr (leb-true count (8 * length (byte ∷ bytes)) (ap (λ (b : Bool). b || has_bits count (byte ∷ bytes)) (sym (ne_eqb (suc (length bytes)) 0 (λ e. omega arith))) ∙ h))
 
 is_validity : (count : ℕ) (validity : List ℕ) → (validity ≡ []) ⊎ (count ≤ 8 * length validity) → (eqb (length validity) 0 || has_bits count validity) ≡ true
 is_validity count validity (inl e) = rw e refl
-is_validity count validity (inr l) = either (eqb (length validity) 0)
-  where
-    either : (b : Bool) → (b || has_bits count validity) ≡ true
-    either true = refl
-    either false = below_is count (8 * length validity) l
+is_validity count validity (inr l) = or_right (eqb (length validity) 0) (has_bits count validity) (le-leb count (8 * length validity) l)
 
 pub sound_parts : (count : ℕ) (nulls : ℤ) (kind : DataType) (validity values texts : List ℕ) → is_sound count nulls (column_of kind validity values texts) ≡ true → SoundIs count nulls kind validity values texts
 unfolding is_sound
 sound_parts count nulls kind va vs ts h =
-    let p = both ((eqb (length va) 0 || has_bits count va) && is_long_enough count (column_of kind va vs ts)) (is_number nulls (misses_below count (is_present va))) h in
-    let q = both (eqb (length va) 0 || has_bits count va) (is_long_enough count (column_of kind va vs ts)) p.0 in
+    let p = and_parts ((eqb (length va) 0 || has_bits count va) && is_long_enough count (column_of kind va vs ts)) (is_number nulls (misses_below count (is_present va))) h in
+    let q = and_parts (eqb (length va) 0 || has_bits count va) (is_long_enough count (column_of kind va vs ts)) p.0 in
     record { validity_long = validity_is count va q.0; long = q.1; nulls_are = same_int nulls (pos (misses_below count (is_present va))) p.1 }
+
+pub same_number : (n : ℕ) → is_number (pos n) n ≡ true
+same_number n = grind (arith, nat_tests)
 
 pub parts_sound : (count : ℕ) (nulls : ℤ) (kind : DataType) (validity values texts : List ℕ) → SoundIs count nulls kind validity values texts → is_sound count nulls (column_of kind validity values texts) ≡ true
 unfolding is_sound
 parts_sound count nulls kind va vs ts s = rw (is_validity count va s.validity_long, s.long, s.nulls_are) (same_number (misses_below count (is_present va)))
-  where
-    same_number : (n : ℕ) → is_number (pos n) n ≡ true
-    same_number n = grind (arith, nat_tests)
 
 -- ---- what is read of a column is held
 
@@ -290,9 +283,9 @@ column_made t batch body place first kind values tables count h =
     = λ row value e. subst (λ (bs : List (List ℕ)). CellStands kind h.validity bs row value) o.are (h.each row value e) in
     let made = values_made t batch.spans body first kind o.values o.texts tables.spans_are at in
     let all : (row : ℕ) (value : Value) → slice_get values row ≡ Some value → Reads place it row value
-    = λ row value e. reads kind h.validity o.values o.texts place n row value (row_below values row value e) long (stand row value e) in
+    = λ row value e. reads kind h.validity o.values o.texts place n row value (slice_get_within values row value e) long (stand row value e) in
     let same : values ≡ map (cell it) (range_with_len 0 n) = made_of (cell it) 0 values (λ i x e. let here : 0 + i ≡ i = omega arith in ap (cell it) here ∙ (all i x e).cell_is) in
-    let every : (row : ℕ) → row < n → (value : Value) × (slice_get values row ≡ Some value) = λ row l. there values row l in
+    let every : (row : ℕ) → row < n → (value : Value) × (slice_get values row ≡ Some value) = λ row l. (get_or values row V.Null, slice_get-get_or values row V.Null l) in
     let nulls : null_count values ≡ misses_below n (is_present h.validity)
     = ap null_count same ∙ nulls_are (cell it) (is_present h.validity) n (λ i l. let v = every i l in ap has_value (all i v.0 v.1).cell_is ∙ (all i v.0 v.1).has) in
     let node : pair_at batch.nodes place ≡ Some (record { first = pos n; second = pos (null_count values) }) = pair_made (vector_field t 1 16) batch.nodes place n (null_count values) tables.nodes_are h.node in
@@ -309,15 +302,5 @@ column_made t batch body place first kind values tables count h =
       values_are = rw count same;
     }
   where
-    row_below : (xs : List Value) (i : ℕ) (x : Value) → slice_get xs i ≡ Some x → i < length xs
-    row_below [] i x e = absurd (cc)
-    row_below (y ∷ ys) zero x e = omega arith
-    row_below (y ∷ ys) (suc i) x e = omega (arith, row_below ys i x e)
-
-    there : (xs : List Value) (i : ℕ) → i < length xs → (x : Value) × (slice_get xs i ≡ Some x)
-    there [] i l = absurd (omega arith)
-    there (y ∷ ys) zero l = (y, refl)
-    there (y ∷ ys) (suc i) l = there ys i (omega arith)
-
     node_read : (m k : ℕ) → nulls_of m (Some (record { first = pos m; second = pos k })) ≡ Some (pos k)
-    node_read m k = let t : is_number (pos m) m ≡ true = grind (arith, nat_tests) in rw t refl
+    node_read m k = rw (same_number m) refl

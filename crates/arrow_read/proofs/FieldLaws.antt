@@ -3,7 +3,8 @@ use Rattle.std.proofs.Common.{◌≡◌, ◌≢◌, ℕ, zero, suc, ◌⊎◌, i
 use Rattle.std.specs.Prelude.{ℤ, pos, unwrap_or, is_some, option_map, IsTrue, ◌↔◌, ◌==◌, if◌then◌else◌}
 use Rattle.std.specs.Result.{result_ok}
 use Rattle.std.specs.Ordering.{int_eq}
-use Rattle.std.proofs.lemmas.Bool.Decides.{nat_tests}
+use Rattle.std.proofs.lemmas.Bool.{false≢true, eqb-true, eqb-false, ne_eqb}
+use Rattle.std.proofs.lemmas.Option.{same_Some}
 use Rattle.cn_types.specs.declared.value.DataType.{DataType}
 use Rattle.cn_types.specs.declared.value.DataType.TheVariants as K
 use Rattle.cn_types.specs.declared.schema.Field.{Field}
@@ -16,9 +17,6 @@ use Rattle.arrow_read.specs.Reading.{field_of}
 use Rattle.arrow_read.proofs.Chains.{ok_of, or_absent_is, is_or_absent, same_int}
 use Rattle.arrow_read.proofs.Steps.{bind_some}
 use Rattle.arrow_read.proofs.Texts.{utf8_is, is_utf8_text}
-
-inside_Some : {A : Type 0} → (x y : A) → Some x ≡ Some y → x ≡ y
-inside_Some x y e = cc
 
 pub presence_absent : (t : TableView) (slot : ℕ) → presence t slot ≡ Some false → field_at t.buffer t.place slot ≡ Ok None
 unfolding presence
@@ -35,22 +33,6 @@ absent_presence t slot h = rw h refl
 
 -- ---- types
 
-not_zero : (n : ℕ) → eqb n 0 ≡ false → n ≢ 0
-not_zero n h e = absurd (let f : eqb n 0 ≡ true = rw e refl in cc)
-
-is_zero : (n : ℕ) → eqb n 0 ≡ true → n ≡ 0
-is_zero n h = grind (arith, nat_tests)
-
-zero_not : (n : ℕ) → n ≢ 0 → eqb n 0 ≡ false
-zero_not n h = by_test (eqb n 0) refl
-  where
-    by_test : (b : Bool) → eqb n 0 ≡ b → eqb n 0 ≡ false
-    by_test true e = absurd (h (is_zero n e))
-    by_test false e = e
-
-same_nat : (n m : ℕ) → eqb n m ≡ true → n ≡ m
-same_nat n m h = grind (arith, nat_tests)
-
 -- an Int's width and sign, of a type
 pub record IntIs (width : ℤ) (signed : ℕ) (k : DataType) : Type 0 where
   pub is_signed : signed ≢ 0
@@ -60,16 +42,16 @@ int_is : (width : ℤ) (signed : ℕ) (k : DataType) → int_kind width signed �
 int_is width signed k h = by_sign (eqb signed 0) refl h
   where
     by_long : (b : Bool) → int_eq width (pos 64) ≡ b → cond b (Some K.Long) None ≡ Some k → signed ≢ 0 → IntIs width signed k
-    by_long true e g ne = let same : K.Long ≡ k = inside_Some K.Long k g in record { is_signed = ne; width_is = inr (sym same, same_int width (pos 64) e) }
+    by_long true e g ne = let same : K.Long ≡ k = same_Some K.Long k g in record { is_signed = ne; width_is = inr (sym same, same_int width (pos 64) e) }
     by_long false e g ne = absurd (cc)
 
     by_width : (b : Bool) → int_eq width (pos 32) ≡ b → cond b (Some K.Integer) (cond (int_eq width (pos 64)) (Some K.Long) None) ≡ Some k → signed ≢ 0 → IntIs width signed k
-    by_width true e g ne = let same : K.Integer ≡ k = inside_Some K.Integer k g in record { is_signed = ne; width_is = inl (sym same, same_int width (pos 32) e) }
+    by_width true e g ne = let same : K.Integer ≡ k = same_Some K.Integer k g in record { is_signed = ne; width_is = inl (sym same, same_int width (pos 32) e) }
     by_width false e g ne = by_long (int_eq width (pos 64)) refl g ne
 
     by_sign : (b : Bool) → eqb signed 0 ≡ b → cond b None (cond (int_eq width (pos 32)) (Some K.Integer) (cond (int_eq width (pos 64)) (Some K.Long) None)) ≡ Some k → IntIs width signed k
     by_sign true e g = absurd (cc)
-    by_sign false e g = by_width (int_eq width (pos 32)) refl g (not_zero signed e)
+    by_sign false e g = by_width (int_eq width (pos 32)) refl g (eqb-false signed 0 e)
 
 int_of_type : (number : ℕ) (table : TableView) (w : Option ℤ) (s : Option ℕ) (k : DataType) → number ≡ 2 → i32_field table 0 ≡ Ok w → u8_field table 1 ≡ Ok s → IntIs (unwrap_or w (pos 0)) (unwrap_or s 0) k
     → IsOfType k number table
@@ -87,7 +69,7 @@ date_of_type number table u k eight eu h = by_unit (int_eq (unwrap_or u (pos 1))
   where
     by_unit : (b : Bool) → int_eq (unwrap_or u (pos 1)) (pos 0) ≡ b → cond b (Some K.Date) None ≡ Some k → IsOfType k number table
     by_unit true e g =
-        let same : K.Date ≡ k = inside_Some K.Date k g in
+        let same : K.Date ≡ k = same_Some K.Date k g in
         subst (λ (x : DataType). IsOfType x number table) same (record { is_date = eight; unit_is = or_absent_is (pos 1) (i16_field table 0) u (pos 0) eu (same_int (unwrap_or u (pos 1)) (pos 0) e) })
     by_unit false e g = absurd (cc)
 
@@ -95,11 +77,11 @@ plain_of_type : (number : ℕ) (table : TableView) (k : DataType) → plain_kind
 plain_of_type number table k h = by_text (eqb number 5) refl h
   where
     by_truth : (b : Bool) → eqb number 6 ≡ b → cond b (Some K.Boolean) None ≡ Some k → IsOfType k number table
-    by_truth true e g = let same : K.Boolean ≡ k = inside_Some K.Boolean k g in subst (λ (x : DataType). IsOfType x number table) same (same_nat number 6 e)
+    by_truth true e g = let same : K.Boolean ≡ k = same_Some K.Boolean k g in subst (λ (x : DataType). IsOfType x number table) same (eqb-true number 6 e)
     by_truth false e g = absurd (cc)
 
     by_text : (b : Bool) → eqb number 5 ≡ b → cond b (Some K.Text) (cond (eqb number 6) (Some K.Boolean) None) ≡ Some k → IsOfType k number table
-    by_text true e g = let same : K.Text ≡ k = inside_Some K.Text k g in subst (λ (x : DataType). IsOfType x number table) same (same_nat number 5 e)
+    by_text true e g = let same : K.Text ≡ k = same_Some K.Text k g in subst (λ (x : DataType). IsOfType x number table) same (eqb-true number 5 e)
     by_text false e g = by_truth (eqb number 6) refl g
 
 kind_of_type : (number : ℕ) (table : TableView) (k : DataType) → kind_in number table ≡ Some (Some k) → IsOfType k number table
@@ -109,15 +91,15 @@ kind_of_type number table k h = by_int (eqb number 2) refl h
     by_date : (b : Bool) → eqb number 8 ≡ b → (if b then kind_in 8 table else Some (plain_kind number)) ≡ Some (Some k) → IsOfType k number table
     by_date true e g =
         let a = bind_some (result_ok (i16_field table 0)) _ (Some k) g in
-        date_of_type number table a.0 k (same_nat number 8 e) (ok_of (i16_field table 0) a.0 a.1) (inside_Some _ (Some k) a.2)
-    by_date false e g = plain_of_type number table k (inside_Some (plain_kind number) (Some k) g)
+        date_of_type number table a.0 k (eqb-true number 8 e) (ok_of (i16_field table 0) a.0 a.1) (same_Some _ (Some k) a.2)
+    by_date false e g = plain_of_type number table k (same_Some (plain_kind number) (Some k) g)
 
     by_int : (b : Bool) → eqb number 2 ≡ b → (if b then kind_in 2 table else (if number == 8 then kind_in 8 table else Some (plain_kind number))) ≡ Some (Some k) → IsOfType k number table
     by_int true e g =
         let a = bind_some (result_ok (i32_field table 0)) _ (Some k) g in
         let b = bind_some (result_ok (u8_field table 1)) _ (Some k) a.2 in
-        int_of_type number table a.0 b.0 k (same_nat number 2 e) (ok_of (i32_field table 0) a.0 a.1) (ok_of (u8_field table 1) b.0 b.1)
-        (int_is (unwrap_or a.0 (pos 0)) (unwrap_or b.0 0) k (inside_Some _ (Some k) b.2))
+        int_of_type number table a.0 b.0 k (eqb-true number 2 e) (ok_of (i32_field table 0) a.0 a.1) (ok_of (u8_field table 1) b.0 b.1)
+        (int_is (unwrap_or a.0 (pos 0)) (unwrap_or b.0 0) k (same_Some _ (Some k) b.2))
     by_int false e g = by_date (eqb number 8) refl g
 
 -- and the other way
@@ -127,12 +109,12 @@ type_of_kind K.Boolean number table h = rw h refl
 type_of_kind K.Integer number table h =
     let w = is_or_absent (pos 0) (i32_field table 0) (pos 32) h.width_is in
     let s = is_or_absent 0 (u8_field table 1) h.signed.0 h.signed.1 in
-    let z : eqb (unwrap_or s.0 0) 0 ≡ false = rw s.2 (zero_not h.signed.0 h.signed.2) in
+    let z : eqb (unwrap_or s.0 0) 0 ≡ false = rw s.2 (ne_eqb h.signed.0 0 h.signed.2) in
     rw (h.is_int, w.1, s.1) (rw (w.2, z) refl)
 type_of_kind K.Long number table h =
     let w = is_or_absent (pos 0) (i32_field table 0) (pos 64) h.width_is in
     let s = is_or_absent 0 (u8_field table 1) h.signed.0 h.signed.1 in
-    let z : eqb (unwrap_or s.0 0) 0 ≡ false = rw s.2 (zero_not h.signed.0 h.signed.2) in
+    let z : eqb (unwrap_or s.0 0) 0 ≡ false = rw s.2 (ne_eqb h.signed.0 0 h.signed.2) in
     rw (h.is_int, w.1, s.1) (rw (w.2, z) refl)
 type_of_kind K.Text number table h = rw h refl
 type_of_kind K.Date number table h =
@@ -156,7 +138,7 @@ no_item r None e h = inl e
 no_item r (Some v) e h = inr (v, e, by_test (eqb v.count 0) refl h)
   where
     by_test : (b : Bool) → eqb v.count 0 ≡ b → not b ≡ false → v.count ≡ 0
-    by_test true f g = is_zero v.count f
+    by_test true f g = eqb-true v.count 0 f
     by_test false f g = absurd (cc)
 
 neither : (a b : Bool) (kind : Option DataType) (k : DataType) → (if a || b then None else kind) ≡ Some k → (a ≡ false) × (b ≡ false) × (kind ≡ Some k)
@@ -170,7 +152,7 @@ plain_type t k h =
     let (kind, ek, h1) = bind_some (type_in t) _ (Some k) h in
     let (dictionary, ed, h2) = bind_some (presence t 4) _ (Some k) h1 in
     let (children, ec, h3) = bind_some (result_ok (vector_field t 5 4)) _ (Some k) h2 in
-    let n = neither dictionary (has_item children) kind k (inside_Some _ (Some k) h3) in
+    let n = neither dictionary (has_item children) kind k (same_Some _ (Some k) h3) in
     let (number, en, h4) = bind_some (result_ok (u8_field t 2)) _ kind ek in
     let (named, et, h5) = bind_some (result_ok (table_field t 3)) _ kind h4 in
     let (table, ea, h6) = bind_some named _ kind h5 in
@@ -186,7 +168,7 @@ plain_type t k h =
 
 truth : (n : ℕ) → IsTrue (not (n == 0)) ↔ (n ≢ 0)
 truth zero = (λ h. absurd (cc), λ h. absurd (h refl))
-truth (suc n) = (λ h e. absurd (omega arith), λ h. ap not (zero_not (suc n) (λ e. omega arith)))
+truth (suc n) = (λ h e. absurd (omega arith), λ h. ap not (ne_eqb (suc n) 0 (λ e. omega arith)))
 
 says : (r : Result (Option ℕ) FlatFault) (o : Option ℕ) → r ≡ Ok o → Says (not (unwrap_or o 0 == 0)) r
 says r o e = (unwrap_or o 0, or_absent_is 0 r o (unwrap_or o 0) e refl, truth (unwrap_or o 0))
@@ -200,7 +182,7 @@ field_holds v place x k h e =
     let (nullable, eb, h3) = bind_some (result_ok (u8_field t 1)) _ x h2 in
     let (seen, ek, h4) = bind_some (plain_type_in t) _ x h3 in
     let (text, eu, h5) = bind_some (utf8 (unwrap_or bytes [])) _ x h4 in
-    let is : record { name = text; nullable = not (unwrap_or nullable 0 == 0); kind = seen } ≡ x = inside_Some _ x h5 in
+    let is : record { name = text; nullable = not (unwrap_or nullable 0 == 0); kind = seen } ≡ x = same_Some _ x h5 in
     let kind : seen ≡ Some k = ap (λ (z : FieldView). z.kind) is ∙ e in
     let name = utf8_is (unwrap_or bytes []) text eu in
     let p = plain_type t k (ek ∙ ap (λ z. Some z) kind) in
@@ -225,12 +207,9 @@ field_holds v place x k h e =
 
 flag_same : (b : Bool) (n : ℕ) → (IsTrue b ↔ (n ≢ 0)) → not (n == 0) ≡ b
 flag_same true zero h = absurd (h.0 refl refl)
-flag_same true (suc n) h = ap not (zero_not (suc n) (λ e. omega arith))
+flag_same true (suc n) h = ap not (ne_eqb (suc n) 0 (λ e. omega arith))
 flag_same false zero h = refl
-flag_same false (suc n) h = absurd (no_truth (h.1 (λ e. omega arith)))
-  where
-    no_truth : IsTrue false → ⊥
-    no_truth e = cc
+flag_same false (suc n) h = absurd (false≢true (h.1 (λ e. omega arith)))
 
 item_none : (r : Result (Option VectorView) FlatFault) → HasNoItem r → (v : Option VectorView) × (r ≡ Ok v) × (has_item v ≡ false)
 item_none r (inl e) = (None, e, refl)

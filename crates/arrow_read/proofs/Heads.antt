@@ -3,13 +3,14 @@ use Rattle.std.proofs.Common.{◌≡◌, ℕ, ◌⊎◌, inl, inr, Bool, true, f
 use Rattle.std.specs.Prelude.{ℤ, pos, unwrap_or, ◌||◌}
 use Rattle.std.specs.Result.{result_ok}
 use Rattle.std.specs.Ordering.{int_eq}
+use Rattle.std.proofs.lemmas.Option.{cond_some}
 use Rattle.flat_tables.specs.declared.fault.FlatFault.{FlatFault}
 use Rattle.flat_tables.specs.Views.{TableView}
 use Rattle.flat_tables.specs.Reading.{named_table, u8_field, i16_field, i64_field, table_field}
 use Rattle.arrow_ipc.specs.Holds.{or_absent, IsVersion}
 use Rattle.arrow_read.specs.declared.head.Head.{Head}
 use Rattle.arrow_read.specs.Tables.{is_version, not_negative, head_in}
-use Rattle.arrow_read.proofs.Chains.{ok_of, guarded, or_absent_is, is_or_absent, not_negative_is, is_not_negative, same_int}
+use Rattle.arrow_read.proofs.Chains.{ok_of, or_absent_is, is_or_absent, not_negative_is, is_not_negative, same_int}
 use Rattle.arrow_read.proofs.Steps.{bind_some}
 
 pub record HeadIs (metadata : List ℕ) (head : Head) : Type 0 where
@@ -48,7 +49,7 @@ head_is metadata head h =
     let (size, es, h5) = bind_some (result_ok (i64_field t 3)) _ head h4 in
     let (header, ed, h6) = bind_some named _ head h5 in
     let (body, eb, h7) = bind_some (not_negative (unwrap_or size (pos 0))) _ head h6 in
-    let g = guarded (is_version (unwrap_or version (pos 0))) (record { number = unwrap_or number 0; header = header; body = body }) head h7 in
+    let g = cond_some (is_version (unwrap_or version (pos 0))) (record { number = unwrap_or number 0; header = header; body = body }) head h7 in
     subst (HeadIs metadata) g.1 (record {
       table = t;
       table_is = ok_of (named_table metadata 0) t et;

@@ -1,10 +1,9 @@
 -- A message's fault is the first one in the order of the format's tests.
-use Rattle.std.proofs.Common.{◌≡◌, ◌≢◌, ℕ, zero, suc, ◌+◌, ◌<◌, ◌≤◌, ◌⊎◌, inl, inr, Bool, true, false, cond, eqb, leb, ◌&&◌, List, [], ◌∷◌, length, take, drop, get_or, Option, None, Some, Result, Ok, Err, arith, refl, ap, ◌∙◌, subst, sym, length-drop}
+use Rattle.std.proofs.Common.{◌≡◌, ◌≢◌, ℕ, zero, suc, ◌+◌, ◌<◌, ◌≤◌, ◌⊎◌, inl, inr, Bool, true, false, cond, eqb, leb, List, [], ◌∷◌, length, take, drop, get_or, Option, None, Some, Result, Ok, Err, arith, refl, ap, ◌∙◌, subst, sym, length-drop}
 use Rattle.std.specs.Prelude.{ℤ, pos, negsuc, ◌<ℤ◌}
 use Rattle.std.specs.Result.{result_ok}
 use Rattle.std.specs.List.{list_all}
-use Rattle.std.proofs.lemmas.Bool.{cases_lt}
-use Rattle.std.proofs.lemmas.Bool.Decides.{nat_tests}
+use Rattle.std.proofs.lemmas.Bool.{leb-false, eqb-true, eqb-false, le-leb, lt-leb, ne_eqb, cases_lt, and_parts}
 use Rattle.std.proofs.lemmas.Int.{ints}
 use Rattle.std.proofs.lemmas.List.{get_or-drop}
 use Rattle.cn_types.specs.declared.schema.Schema.{Schema}
@@ -19,56 +18,21 @@ use Rattle.arrow_read.specs.Reading.{◌>>=◌, or_fault, begins_as_message, if_
 use Rattle.arrow_read.specs.ColumnFaults.{ColumnsFaulty}
 use Rattle.arrow_read.specs.MessageFaults.{BeginsAsMessage, MetadataAt, MetadataFaulty, FirstTables, FirstFaulty, LaterTables, LaterFaulty, MessageFaultsAreFirst}
 use Rattle.arrow_read.specs.MessageFaults.{other_mark, negative_size, no_size, cut, first_metadata, first_ended, first_headless, first_without_schema, first_of_other_header, first_of_other_type, first_cut, later_metadata, later_headless, later_without_batch, later_of_other_header, later_compressed, later_cut, later_columns}
-use Rattle.arrow_read.proofs.Chains.{ok_of, not_negative_is, is_not_negative}
-use Rattle.arrow_read.proofs.MessageLaws.{size_is, is_size}
-use Rattle.arrow_read.proofs.BufferLaws.{i32_inside, is_below, below_is}
+use Rattle.arrow_read.proofs.Chains.{same_Err, fault_ok, ok_of, not_negative_is, is_not_negative}
+use Rattle.arrow_read.proofs.MessageLaws.{is_mark_byte, size_is, is_size, body_stands}
+use Rattle.arrow_read.proofs.BufferLaws.{i32_inside}
+use Rattle.arrow_read.proofs.BatchLoop.{plain_is}
 use Rattle.arrow_read.proofs.RowLaws.{batch_is}
-use Rattle.arrow_read.proofs.StreamLaws.{batch_header}
-use Rattle.arrow_read.proofs.ColumnFaultLaws.{bind_err, fault_err, fault_ok, columns_faulty, columns_fault}
-
-same_fault : {A : Type 0} → (x y : ArrowFault) → (let r : Result A ArrowFault = Err x in r) ≡ Err y → x ≡ y
-same_fault x y e = cc
-
-inside_Some : {A : Type 0} → (x y : A) → Some x ≡ Some y → x ≡ y
-inside_Some x y e = cc
-
-same_nat : (n m : ℕ) → eqb n m ≡ true → n ≡ m
-same_nat n m h = grind (arith, nat_tests)
-
-other_nat : (n m : ℕ) → n ≢ m → eqb n m ≡ false
-other_nat n m ne = by_test (eqb n m) refl
-  where
-    by_test : (b : Bool) → eqb n m ≡ b → eqb n m ≡ false
-    by_test true e = absurd (ne (same_nat n m e))
-    by_test false e = e
-
-not_same : (n m : ℕ) → eqb n m ≡ false → n ≢ m
-not_same n m e k = absurd (let f : eqb n m ≡ true = rw k (same m) in cc)
-  where
-    same : (k : ℕ) → eqb k k ≡ true
-    same k = grind (arith, nat_tests)
-
-above_is : (n m : ℕ) → m < n → leb n m ≡ false
-above_is n m h = grind (arith, nat_tests)
-
-is_above : (n m : ℕ) → leb n m ≡ false → m < n
-is_above n m h = grind (arith, nat_tests)
-
-both : (a b : Bool) → (a && b) ≡ true → (a ≡ true) × (b ≡ true)
-both true true h = (refl, refl)
-both true false h = absurd (cc)
-both false b h = absurd (cc)
+use Rattle.arrow_read.proofs.StreamLaws.{more_is, batch_header}
+use Rattle.arrow_read.proofs.ColumnFaultLaws.{bind_err, fault_err, columns_faulty, columns_fault}
 
 -- ---- the mark
-
-abbrev is_mark_byte : ℕ → Bool
-is_mark_byte byte = eqb byte 255
 
 all_at : (n : ℕ) (xs : List ℕ) → list_all is_mark_byte (take n xs) ≡ true → (i : ℕ) → i < n → i < length xs → get_or xs i 0 ≡ 255
 all_at zero xs h i l k = absurd (omega arith)
 all_at (suc n) [] h i l k = absurd (omega arith)
-all_at (suc n) (x ∷ xs) h zero l k = same_nat x 255 (both (is_mark_byte x) (list_all is_mark_byte (take n xs)) h).0
-all_at (suc n) (x ∷ xs) h (suc i) l k = all_at n xs (both (is_mark_byte x) (list_all is_mark_byte (take n xs)) h).1 i (omega arith) (omega arith)
+all_at (suc n) (x ∷ xs) h zero l k = eqb-true x 255 (and_parts (is_mark_byte x) (list_all is_mark_byte (take n xs)) h).0
+all_at (suc n) (x ∷ xs) h (suc i) l k = all_at n xs (and_parts (is_mark_byte x) (list_all is_mark_byte (take n xs)) h).1 i (omega arith) (omega arith)
 
 at_all : (n : ℕ) (xs : List ℕ) → ((i : ℕ) → i < n → i < length xs → get_or xs i 0 ≡ 255) → list_all is_mark_byte (take n xs) ≡ true
 at_all zero xs h = refl
@@ -96,7 +60,7 @@ no_number b at h = elim (cases_lt (length b) (at + 4)) [
 
 number_none : (b : List ℕ) (at : ℕ) → length b < at + 4 → result_ok (i32_at b at) ≡ None
 unfolding i32_at
-number_none b at l = rw (above_is (at + 4) (length b) l) refl
+number_none b at l = rw (lt-leb (at + 4) (length b) l) refl
 
 negative_is : (z : ℤ) → not_negative z ≡ None → z <ℤ pos 0
 negative_is (pos n) h = absurd (let e = is_not_negative n in cc)
@@ -111,7 +75,7 @@ whole_err bytes at size f h = by_test (leb (at + 8 + size) (length bytes)) refl 
   where
     by_test : (b : Bool) → leb (at + 8 + size) (length bytes) ≡ b → cond b (Ok size) (Err Truncated) ≡ Err f → (length bytes < at + 8 + size) × (Truncated ≡ f)
     by_test true e k = absurd (cc)
-    by_test false e k = let same : Truncated ≡ f = cc in (is_above (at + 8 + size) (length bytes) e, same)
+    by_test false e k = let same : Truncated ≡ f = cc in (leb-false (at + 8 + size) (length bytes) e, same)
 
 metadata_faulty : (bytes : List ℕ) (at : ℕ) (f : ArrowFault) → metadata_size bytes at ≡ Err f → MetadataFaulty bytes at f
 unfolding metadata_size
@@ -119,7 +83,7 @@ metadata_faulty bytes at f h = by_mark (begins_as_message (drop at bytes)) refl 
   where
     by_mark : (b : Bool) → begins_as_message (drop at bytes) ≡ b
         → cond b (or_fault Truncated (result_ok (i32_at bytes (at + 4))) >>= λ number. or_fault (NotAMessage at) (not_negative number) >>= λ n. if_whole bytes at n) (Err (NotAMessage at)) ≡ Err f → MetadataFaulty bytes at f
-    by_mark false e k = subst (MetadataFaulty bytes at) (same_fault (NotAMessage at) f k) (other_mark (λ b. absurd (let g = is_begins bytes at b in cc)))
+    by_mark false e k = subst (MetadataFaulty bytes at) (same_Err (NotAMessage at) f k) (other_mark (λ b. absurd (let g = is_begins bytes at b in cc)))
     by_mark true e k =
         let begin : BeginsAsMessage bytes at = begins_is bytes at e in
         elim (bind_err (or_fault Truncated (result_ok (i32_at bytes (at + 4)))) _ f k) [
@@ -156,7 +120,7 @@ unfolding metadata_size
 metadata_fault bytes at (other_mark n) = mark_fault bytes at n
 metadata_fault bytes at (negative_size size b e n) = rw (is_begins bytes at b, e) (rw (is_negative size n) refl)
 metadata_fault bytes at (no_size b l) = let short : length bytes < at + 4 + 4 = omega arith in rw (is_begins bytes at b, number_none bytes (at + 4) short) refl
-metadata_fault bytes at (cut size b e l) = rw (is_begins bytes at b, e) (rw (is_not_negative size, above_is (at + 8 + size) (length bytes) l) refl)
+metadata_fault bytes at (cut size b e l) = rw (is_begins bytes at b, e) (rw (is_not_negative size, lt-leb (at + 8 + size) (length bytes) l) refl)
 
 metadata_is : (bytes : List ℕ) (at size : ℕ) → metadata_size bytes at ≡ Ok size → MetadataAt bytes at size
 metadata_is bytes at size h = let s = size_is bytes at size h in record { mark_is = s.mark_is; size_is = s.size_is; within = s.within }
@@ -171,14 +135,7 @@ body_err bytes at size f h = by_test (leb (at + size) (length bytes)) refl h
   where
     by_test : (b : Bool) → leb (at + size) (length bytes) ≡ b → cond b (Ok (take size (drop at bytes))) (Err Truncated) ≡ Err f → (length bytes < at + size) × (Truncated ≡ f)
     by_test true e k = absurd (cc)
-    by_test false e k = let same : Truncated ≡ f = cc in (is_above (at + size) (length bytes) e, same)
-
-body_ok : (bytes : List ℕ) (at size : ℕ) (body : List ℕ) → body_at bytes at size ≡ Ok body → (at + size ≤ length bytes) × (body ≡ take size (drop at bytes))
-body_ok bytes at size body h = by_test (leb (at + size) (length bytes)) refl h
-  where
-    by_test : (b : Bool) → leb (at + size) (length bytes) ≡ b → cond b (Ok (take size (drop at bytes))) (Err Truncated) ≡ Ok body → (at + size ≤ length bytes) × (body ≡ take size (drop at bytes))
-    by_test true e k = let same : body ≡ take size (drop at bytes) = cc in (is_below (at + size) (length bytes) e, same)
-    by_test false e k = absurd (cc)
+    by_test false e k = let same : Truncated ≡ f = cc in (leb-false (at + size) (length bytes) e, same)
 
 -- ---- the first message
 
@@ -186,23 +143,16 @@ more_err : (size : ℕ) (f : ArrowFault) → if_more size ≡ Err f → (size �
 more_err size f h = by_test (eqb size 0) refl h
   where
     by_test : (b : Bool) → eqb size 0 ≡ b → cond b (Err Truncated) (Ok size) ≡ Err f → (size ≡ 0) × (Truncated ≡ f)
-    by_test true e k = let same : Truncated ≡ f = cc in (same_nat size 0 e, same)
+    by_test true e k = let same : Truncated ≡ f = cc in (eqb-true size 0 e, same)
     by_test false e k = absurd (cc)
 
-more_ok : (size found : ℕ) → if_more size ≡ Ok found → size ≢ 0
-more_ok size found h = by_test (eqb size 0) refl h
-  where
-    by_test : (b : Bool) → eqb size 0 ≡ b → cond b (Err Truncated) (Ok size) ≡ Ok found → size ≢ 0
-    by_test true e k = absurd (cc)
-    by_test false e k = not_same size 0 e
-
 schema_faulty : (bytes : List ℕ) (size : ℕ) (head : Head) (fields : Option (List FieldView)) (f : ArrowFault) → FirstTables bytes size head fields → schema_of fields ≡ Err f → FirstFaulty bytes f
-schema_faulty bytes size head None f t h = subst (FirstFaulty bytes) (same_fault (UnsupportedType 0) f h) (first_of_other_header size head t)
+schema_faulty bytes size head None f t h = subst (FirstFaulty bytes) (same_Err (UnsupportedType 0) f h) (first_of_other_header size head t)
 schema_faulty bytes size head (Some fields) f t h = by_place (unsupported fields) refl h
   where
     by_place : (o : Option ℕ) → unsupported fields ≡ o → if_supported fields o ≡ Err f → FirstFaulty bytes f
     by_place None e k = absurd (cc)
-    by_place (Some place) e k = subst (FirstFaulty bytes) (same_fault (UnsupportedType place) f k) (first_of_other_type size head fields place t e)
+    by_place (Some place) e k = subst (FirstFaulty bytes) (same_Err (UnsupportedType place) f k) (first_of_other_type size head fields place t e)
 
 -- the fields of a schema, all of which have a type
 schema_fields : (fields : Option (List FieldView)) (schema : Schema) → schema_of fields ≡ Ok schema → (seen : List FieldView) × (fields ≡ Some seen) × (unsupported seen ≡ None)
@@ -225,7 +175,7 @@ first_faulty bytes f h =
             | inl e ↦ let z = more_err size f e in subst (FirstFaulty bytes) z.1 (first_ended (subst (MetadataAt bytes 0) z.0 m))
             | inr more1 ↦
                 let (found, em, h2) = more1 in
-                let ne : size ≢ 0 = more_ok size found em in
+                let ne : size ≢ 0 = eqb-false size 0 (more_is size found em) in
                 elim (bind_err (or_fault (BadTable 0) (head_in (metadata_at bytes 0 size))) _ f h2) [
                   | inl e ↦ let z = fault_err (BadTable 0) (head_in (metadata_at bytes 0 size)) f e in subst (FirstFaulty bytes) z.1 (first_headless size m ne z.0)
                   | inr more2 ↦
@@ -257,11 +207,11 @@ first_fault : (bytes : List ℕ) {f : ArrowFault} → FirstFaulty bytes f → fi
 unfolding first_message
 first_fault bytes (first_metadata f m) = rw (metadata_fault bytes 0 m) refl
 first_fault bytes (first_ended m) = rw (is_metadata bytes 0 0 m) refl
-first_fault bytes (first_headless size m ne h) = rw (is_metadata bytes 0 size m, other_nat size 0 ne) (rw h refl)
-first_fault bytes (first_without_schema size head m ne h k) = rw (is_metadata bytes 0 size m, other_nat size 0 ne) (rw (h, k) refl)
-first_fault bytes (first_of_other_header size head t) = rw (is_metadata bytes 0 size t.metadata, other_nat size 0 t.not_end) (rw (t.head_is, t.fields_are) refl)
-first_fault bytes (first_of_other_type size head fields place t e) = rw (is_metadata bytes 0 size t.metadata, other_nat size 0 t.not_end) (rw (t.head_is, t.fields_are) (rw e refl))
-first_fault bytes (first_cut size head fields t e l) = rw (is_metadata bytes 0 size t.metadata, other_nat size 0 t.not_end) (rw (t.head_is, t.fields_are) (rw (e, above_is (8 + size + head.body) (length bytes) l) refl))
+first_fault bytes (first_headless size m ne h) = rw (is_metadata bytes 0 size m, ne_eqb size 0 ne) (rw h refl)
+first_fault bytes (first_without_schema size head m ne h k) = rw (is_metadata bytes 0 size m, ne_eqb size 0 ne) (rw (h, k) refl)
+first_fault bytes (first_of_other_header size head t) = rw (is_metadata bytes 0 size t.metadata, ne_eqb size 0 t.not_end) (rw (t.head_is, t.fields_are) refl)
+first_fault bytes (first_of_other_type size head fields place t e) = rw (is_metadata bytes 0 size t.metadata, ne_eqb size 0 t.not_end) (rw (t.head_is, t.fields_are) (rw e refl))
+first_fault bytes (first_cut size head fields t e l) = rw (is_metadata bytes 0 size t.metadata, ne_eqb size 0 t.not_end) (rw (t.head_is, t.fields_are) (rw (e, lt-leb (8 + size + head.body) (length bytes) l) refl))
 
 -- ---- a later message
 
@@ -272,14 +222,6 @@ plain_err (Some b) f h = by_test b.compressed refl h
     by_test : (c : Bool) → b.compressed ≡ c → cond c (Err Compressed) (Ok b) ≡ Err f → ((Some b ≡ None) × (UnsupportedType 0 ≡ f)) ⊎ ((batch : BatchTables) × (Some b ≡ Some batch) × (batch.compressed ≡ true) × (Compressed ≡ f))
     by_test true e k = let same : Compressed ≡ f = cc in inr (b, refl, e, same)
     by_test false e k = absurd (cc)
-
-plain_ok : (o : Option BatchTables) (batch : BatchTables) → if_plain o ≡ Ok batch → (o ≡ Some batch) × (batch.compressed ≡ false)
-plain_ok None batch h = absurd (cc)
-plain_ok (Some b) batch h = by_test b.compressed refl h
-  where
-    by_test : (c : Bool) → b.compressed ≡ c → cond c (Err Compressed) (Ok b) ≡ Ok batch → (Some b ≡ Some batch) × (batch.compressed ≡ false)
-    by_test true e k = absurd (cc)
-    by_test false e k = let same : b ≡ batch = cc in (ap (λ z. Some z) same, ap (λ (z : BatchTables). z.compressed) (sym same) ∙ e)
 
 batch_faulty : (bytes : List ℕ) (schema : Schema) (at size : ℕ) (f : ArrowFault) → at ≢ length bytes → MetadataAt bytes at size → size ≢ 0 → batch_at bytes schema at size ≡ Err f → LaterFaulty bytes schema at f
 unfolding batch_at
@@ -301,17 +243,17 @@ batch_faulty bytes schema at size f over m ne h =
                   ]
                   | inr more2 ↦
                       let (batch, ep, h3) = more2 in
-                      let p = plain_ok header batch ep in
+                      let p = plain_is header batch ep in
                       let tb : LaterTables bytes at size head (Some batch) = subst (LaterTables bytes at size head) p.0 t in
                       elim (bind_err (body_at bytes (at + 8 + size) head.body) _ f h3) [
                         | inl e ↦ let z = body_err bytes (at + 8 + size) head.body f e in subst (LaterFaulty bytes schema at) z.1 (later_cut size head batch tb p.1 z.0)
                         | inr more3 ↦
                             let (body, eb, h4) = more3 in
-                            let w = body_ok bytes (at + 8 + size) head.body body eb in
+                            let w = body_stands bytes (at + 8 + size) head.body body eb in
                             elim (bind_err (columns_in batch body 0 0 schema.0) _ f h4) [
                               | inl e ↦
                                   let tables = (batch_is head.header batch (batch_header head batch tb.batch_is).1).tables in
-                                  later_columns size head batch f tb p.1 w.0 (subst (λ (bs : List ℕ). ColumnsFaulty head.header bs batch.count 0 0 schema.0 f) w.1 (columns_faulty head.header batch body 0 0 schema.0 f tables e))
+                                  later_columns size head batch f tb p.1 w.2 (subst (λ (bs : List ℕ). ColumnsFaulty head.header bs batch.count 0 0 schema.0 f) (sym w.0) (columns_faulty head.header batch body 0 0 schema.0 f tables e))
                               | inr last ↦ let (columns, ea, h5) = last in absurd (cc)
                             ]
                       ]
@@ -324,11 +266,11 @@ mark_err bytes schema at size f h = by_test (eqb size 0) refl h
   where
     inside : (r : Result Part ArrowFault) → (r >>= one_more) ≡ Err f → r ≡ Err f
     inside (Ok part) k = absurd (cc)
-    inside (Err g) k = ap (λ (x : ArrowFault). Err x) (same_fault g f k)
+    inside (Err g) k = ap (λ (x : ArrowFault). Err x) (same_Err g f k)
 
     by_test : (b : Bool) → eqb size 0 ≡ b → cond b (Ok None) (batch_at bytes schema at size >>= one_more) ≡ Err f → (size ≢ 0) × (batch_at bytes schema at size ≡ Err f)
     by_test true e k = absurd (cc)
-    by_test false e k = (not_same size 0 e, inside (batch_at bytes schema at size) k)
+    by_test false e k = (eqb-false size 0 e, inside (batch_at bytes schema at size) k)
 
 later_faulty : (bytes : List ℕ) (schema : Schema) (at : ℕ) (f : ArrowFault) → next_batch bytes schema at ≡ Err f → LaterFaulty bytes schema at f
 unfolding next_batch
@@ -337,7 +279,7 @@ later_faulty bytes schema at f h = by_end (eqb at (length bytes)) refl h
     by_end : (b : Bool) → eqb at (length bytes) ≡ b → cond b (Ok None) (metadata_size bytes at >>= mark_or_batch bytes schema at) ≡ Err f → LaterFaulty bytes schema at f
     by_end true e k = absurd (cc)
     by_end false e k =
-        let over : at ≢ length bytes = not_same at (length bytes) e in
+        let over : at ≢ length bytes = eqb-false at (length bytes) e in
         elim (bind_err (metadata_size bytes at) (mark_or_batch bytes schema at) f k) [
           | inl g ↦ later_metadata f over (metadata_faulty bytes at f g)
           | inr more ↦
@@ -349,11 +291,11 @@ later_faulty bytes schema at f h = by_end (eqb at (length bytes)) refl h
 -- a batch's fault is that of the message
 batch_fault : (bytes : List ℕ) (schema : Schema) (at size : ℕ) (f : ArrowFault) → at ≢ length bytes → MetadataAt bytes at size → size ≢ 0 → batch_at bytes schema at size ≡ Err f → next_batch bytes schema at ≡ Err f
 unfolding next_batch
-batch_fault bytes schema at size f over m ne h = rw (other_nat at (length bytes) over, is_metadata bytes at size m) (rw (other_nat size 0 ne, h) refl)
+batch_fault bytes schema at size f over m ne h = rw (ne_eqb at (length bytes) over, is_metadata bytes at size m) (rw (ne_eqb size 0 ne, h) refl)
 
 metadata_missing : (bytes : List ℕ) (schema : Schema) (at : ℕ) (f : ArrowFault) → at ≢ length bytes → metadata_size bytes at ≡ Err f → next_batch bytes schema at ≡ Err f
 unfolding next_batch
-metadata_missing bytes schema at f over h = rw (other_nat at (length bytes) over, h) refl
+metadata_missing bytes schema at f over h = rw (ne_eqb at (length bytes) over, h) refl
 
 head_fault : (bytes : List ℕ) (schema : Schema) (at size : ℕ) → head_in (metadata_at bytes at size) ≡ None → batch_at bytes schema at size ≡ Err (BadTable at)
 unfolding batch_at
@@ -375,14 +317,14 @@ compressed_fault bytes schema at size head batch h k c = rw (h, k) (rw c refl)
 cut_fault : (bytes : List ℕ) (schema : Schema) (at size : ℕ) (head : Head) (batch : BatchTables) → head_in (metadata_at bytes at size) ≡ Some head → later_header head ≡ Some (Some batch) → batch.compressed ≡ false
     → length bytes < at + 8 + size + head.body → batch_at bytes schema at size ≡ Err Truncated
 unfolding batch_at
-cut_fault bytes schema at size head batch h k c l = rw (h, k) (rw c (rw (above_is (at + 8 + size + head.body) (length bytes) l) refl))
+cut_fault bytes schema at size head batch h k c l = rw (h, k) (rw c (rw (lt-leb (at + 8 + size + head.body) (length bytes) l) refl))
 
 column_fault : (bytes : List ℕ) (schema : Schema) (at size : ℕ) (head : Head) (batch : BatchTables) (f : ArrowFault) → head_in (metadata_at bytes at size) ≡ Some head → later_header head ≡ Some (Some batch) → batch.compressed ≡ false
     → at + 8 + size + head.body ≤ length bytes → columns_in batch (take head.body (drop (at + 8 + size) bytes)) 0 0 schema.0 ≡ Err f → batch_at bytes schema at size ≡ Err f
 unfolding batch_at
 column_fault bytes schema at size head batch f h k c l e =
     let plain : if_plain (Some batch) ≡ Ok batch = rw c refl in
-    rw (h, k) (rw plain (rw (below_is (at + 8 + size + head.body) (length bytes) l) (rw e refl)))
+    rw (h, k) (rw plain (rw (le-leb (at + 8 + size + head.body) (length bytes) l) (rw e refl)))
 
 later_fault : (bytes : List ℕ) (schema : Schema) (at : ℕ) {f : ArrowFault} → LaterFaulty bytes schema at f → next_batch bytes schema at ≡ Err f
 later_fault bytes schema at (later_metadata f over m) = metadata_missing bytes schema at f over (metadata_fault bytes at m)

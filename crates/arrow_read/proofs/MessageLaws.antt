@@ -3,7 +3,7 @@ use Rattle.std.proofs.Common.{◌≡◌, ℕ, zero, suc, ◌+◌, ◌≤◌, Boo
 use Rattle.std.specs.Prelude.{pos}
 use Rattle.std.specs.Result.{result_ok}
 use Rattle.std.specs.List.{list_all}
-use Rattle.std.proofs.lemmas.Bool.Decides.{nat_tests}
+use Rattle.std.proofs.lemmas.Bool.{leb-true, eqb-true, le-leb, ne_eqb, and_parts}
 use Rattle.flat_tables.specs.Views.{TableView}
 use Rattle.flat_tables.specs.Reading.{i32_at, u32_at, target_at, named_table}
 use Rattle.arrow_ipc.specs.Stream.{mark}
@@ -15,23 +15,9 @@ use Rattle.arrow_read.specs.Reading.{◌>>=◌, or_fault, begins_as_message, if_
 use Rattle.arrow_read.proofs.Chains.{bind_ok, fault_ok, ok_of, not_negative_is, is_not_negative}
 use Rattle.arrow_read.proofs.Heads.{head_is, is_head}
 
-both : (a b : Bool) → (a && b) ≡ true → (a ≡ true) × (b ≡ true)
-both true true h = (refl, refl)
-both true false h = absurd (cc)
-both false b h = absurd (cc)
-
-same_nat : (n m : ℕ) → eqb n m ≡ true → n ≡ m
-same_nat n m h = grind (arith, nat_tests)
-
-is_below : (n m : ℕ) → leb n m ≡ true → n ≤ m
-is_below n m h = grind (arith, nat_tests)
-
-below_is : (n m : ℕ) → n ≤ m → leb n m ≡ true
-below_is n m h = grind (arith, nat_tests)
-
 -- ---- the mark
 
-abbrev is_mark_byte : ℕ → Bool
+abbrev pub is_mark_byte : ℕ → Bool
 is_mark_byte byte = eqb byte 255
 
 mark_is : (xs : List ℕ) → list_all is_mark_byte (take 4 xs) ≡ true → 4 ≤ length xs → take 4 xs ≡ mark
@@ -40,14 +26,14 @@ mark_is (a ∷ []) h l = absurd (omega arith)
 mark_is (a ∷ b ∷ []) h l = absurd (omega arith)
 mark_is (a ∷ b ∷ c ∷ []) h l = absurd (omega arith)
 mark_is (a ∷ b ∷ c ∷ d ∷ xs) h l =
-    let p = both (is_mark_byte a) (is_mark_byte b && (is_mark_byte c && (is_mark_byte d && true))) h in
-    let q = both (is_mark_byte b) (is_mark_byte c && (is_mark_byte d && true)) p.1 in
-    let r = both (is_mark_byte c) (is_mark_byte d && true) q.1 in
-    let s = both (is_mark_byte d) true r.1 in
-    let ea : a ≡ 255 = same_nat a 255 p.0 in
-    let eb : b ≡ 255 = same_nat b 255 q.0 in
-    let ec : c ≡ 255 = same_nat c 255 r.0 in
-    let ed : d ≡ 255 = same_nat d 255 s.0 in
+    let p = and_parts (is_mark_byte a) (is_mark_byte b && (is_mark_byte c && (is_mark_byte d && true))) h in
+    let q = and_parts (is_mark_byte b) (is_mark_byte c && (is_mark_byte d && true)) p.1 in
+    let r = and_parts (is_mark_byte c) (is_mark_byte d && true) q.1 in
+    let s = and_parts (is_mark_byte d) true r.1 in
+    let ea : a ≡ 255 = eqb-true a 255 p.0 in
+    let eb : b ≡ 255 = eqb-true b 255 q.0 in
+    let ec : c ≡ 255 = eqb-true c 255 r.0 in
+    let ed : d ≡ 255 = eqb-true d 255 s.0 in
     rw (ea, eb, ec, ed) refl
 
 -- ---- the size of the metadata
@@ -61,7 +47,7 @@ whole_is : (bytes : List ℕ) (at size found : ℕ) → if_whole bytes at size �
 whole_is bytes at size found h = by_test (leb (at + 8 + size) (length bytes)) refl h
   where
     by_test : (b : Bool) → leb (at + 8 + size) (length bytes) ≡ b → cond b (Ok size) (Err Truncated) ≡ Ok found → (size ≡ found) × (at + 8 + size ≤ length bytes)
-    by_test true e k = let same : size ≡ found = cc in (same, is_below _ _ e)
+    by_test true e k = let same : size ≡ found = cc in (same, leb-true _ _ e)
     by_test false e k = absurd (cc)
 
 pub size_is : (bytes : List ℕ) (at size : ℕ) → metadata_size bytes at ≡ Ok size → SizeIs bytes at size
@@ -89,7 +75,7 @@ begins bytes e = ap (list_all is_mark_byte) e
 
 pub is_size : (bytes : List ℕ) (at size : ℕ) → SizeIs bytes at size → metadata_size bytes at ≡ Ok size
 unfolding metadata_size
-is_size bytes at size h = rw (begins (drop at bytes) h.mark_is, h.size_is) (rw (is_not_negative size, below_is (at + 8 + size) (length bytes) h.within) refl)
+is_size bytes at size h = rw (begins (drop at bytes) h.mark_is, h.size_is) (rw (is_not_negative size, le-leb (at + 8 + size) (length bytes) h.within) refl)
 
 -- ---- the message
 
@@ -107,18 +93,15 @@ no_bytes t e = cc
 
 has_bytes : (bytes : List ℕ) (at size : ℕ) (t : TableView) → named_table (take size (drop (at + 8) bytes)) 0 ≡ Ok t → eqb size 0 ≡ false
 has_bytes bytes at zero t e = absurd (no_bytes t e)
-has_bytes bytes at (suc size) t e = not_zero size
-  where
-    not_zero : (n : ℕ) → eqb (suc n) 0 ≡ false
-    not_zero n = grind (arith, nat_tests)
+has_bytes bytes at (suc size) t e = ne_eqb (suc size) 0 (λ e. omega arith)
 
-body_stands : (bytes : List ℕ) (at size : ℕ) (body : List ℕ) → body_at bytes at size ≡ Ok body → (take size (drop at bytes) ≡ body) × (length body ≡ size) × (at + size ≤ length bytes)
+pub body_stands : (bytes : List ℕ) (at size : ℕ) (body : List ℕ) → body_at bytes at size ≡ Ok body → (take size (drop at bytes) ≡ body) × (length body ≡ size) × (at + size ≤ length bytes)
 body_stands bytes at size body h = by_test (leb (at + size) (length bytes)) refl h
   where
     by_test : (b : Bool) → leb (at + size) (length bytes) ≡ b → cond b (Ok (take size (drop at bytes))) (Err Truncated) ≡ Ok body → (take size (drop at bytes) ≡ body) × (length body ≡ size) × (at + size ≤ length bytes)
     by_test true e k =
         let same : take size (drop at bytes) ≡ body = cc in
-        let within : at + size ≤ length bytes = is_below _ _ e in
+        let within : at + size ≤ length bytes = leb-true _ _ e in
         let long : length (take size (drop at bytes)) ≡ size = omega (arith, length-take size (drop at bytes), length-drop at bytes) in
         (same, ap length (sym same) ∙ long, within)
     by_test false e k = absurd (cc)
@@ -160,6 +143,6 @@ message_read bytes at number header body next m =
         header_is = m.header_is;
         body_size = m.body_size;
       });
-      body_is = rw (below_is (at + 8 + m.size + length body) (length bytes) end) (ap (λ z. Ok z) m.body_is);
+      body_is = rw (le-leb (at + 8 + m.size + length body) (length bytes) end) (ap (λ z. Ok z) m.body_is);
       next_is = sym m.next_is;
     }

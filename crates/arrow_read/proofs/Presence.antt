@@ -1,6 +1,6 @@
 -- Whether a table has a slot.
-use Rattle.std.proofs.Common.{◌≡◌, ℕ, true, false, Option, None, Some, Result, Ok, Err, refl}
-use Rattle.std.specs.Prelude.{is_some, option_map, IsTrue}
+use Rattle.std.proofs.Common.{◌≡◌, ℕ, true, Option, None, Some, Result, Ok, Err, refl}
+use Rattle.std.specs.Prelude.{is_some, option_map}
 use Rattle.std.specs.Result.{result_ok}
 use Rattle.flat_tables.specs.declared.fault.FlatFault.{FlatFault}
 use Rattle.flat_tables.specs.Views.{TableView}
@@ -19,9 +19,6 @@ outside t slot absent read = by_field (field_at t.buffer t.place slot) absent re
     by_field (Ok None) a u = absurd (u refl)
     by_field (Ok (Some place)) a u = absurd (a place refl)
     by_field (Err e) a u = refl
-
-pub no_truth : IsTrue false → ⊥
-no_truth e = cc
 
 pub not_none : {A : Type 0} (r s : Result (Option A) FlatFault) (o : Option A) (x : A) → r ≡ s → r ≡ Ok o → o ≡ Some x → s ≡ Ok None → ⊥
 not_none r s o x e f g h = cc

@@ -1,10 +1,12 @@
 -- The rows of a batch are read exactly where it holds them.
-use Rattle.std.proofs.Common.{◌≡◌, ℕ, zero, suc, ◌+◌, Bool, false, List, [], ◌∷◌, length, map, Option, Some, Result, Ok, arith, refl, ap, ◌∙◌, subst, sym}
+use Rattle.std.proofs.Common.{◌≡◌, ℕ, zero, suc, ◌+◌, Bool, false, List, [], ◌∷◌, length, map, Option, Some, Ok, arith, refl, ap, ◌∙◌, subst, sym}
 use Rattle.std.specs.Prelude.{pos, slice_get, unwrap_or}
 use Rattle.std.specs.Result.{result_ok}
 use Rattle.std.specs.List.{AllByRecursion, range_with_len}
+use Rattle.std.proofs.lemmas.Option.{same_Some, slice_get_within, get_or_from_slice_get}
+use Rattle.std.proofs.lemmas.List.{length-map}
 use Rattle.std.proofs.lemmas.List.FromFn.{length-map-range_with_len}
-use Rattle.std.proofs.lemmas.List.Elements.{All-from_recursion, recursion_from_All}
+use Rattle.std.proofs.lemmas.List.Elements.{All-from_recursion, All-get_or}
 use Rattle.cn_types.specs.declared.value.Value.{Value}
 use Rattle.cn_types.specs.declared.value.Value.TheVariants as V
 use Rattle.cn_types.specs.declared.row.Row.{Row}
@@ -12,28 +14,17 @@ use Rattle.cn_types.specs.declared.schema.Field.{Field}
 use Rattle.cn_types.specs.declared.schema.Schema.{Schema}
 use Rattle.flat_tables.specs.Views.{TableView}
 use Rattle.flat_tables.specs.Reading.{i64_field, vector_field}
+use Rattle.flat_tables.proofs.Places.{slice_get-map}
 use Rattle.arrow_ipc.specs.Columns.{value_at, cells}
 use Rattle.arrow_ipc.specs.Holds.{or_absent, buffer_count, ColumnHolds, ColumnsHold, BatchHolds}
-use Rattle.arrow_read.specs.declared.fault.ArrowFault.{ArrowFault}
 use Rattle.arrow_read.specs.declared.batch.BatchTables.{BatchTables}
 use Rattle.arrow_read.specs.Tables.{presence, not_negative, batch_in}
 use Rattle.arrow_read.specs.Columns.{ColumnView, cell, row_of, rows_of}
 use Rattle.arrow_read.specs.Reading.{column_in, columns_in}
-use Rattle.arrow_read.proofs.Chains.{bind_ok, ok_of, or_absent_is, is_or_absent, not_negative_is, is_not_negative}
+use Rattle.arrow_read.proofs.Chains.{same_Ok, bind_ok, ok_of, or_absent_is, is_or_absent, not_negative_is, is_not_negative}
 use Rattle.arrow_read.proofs.Steps.{bind_some}
 use Rattle.arrow_read.proofs.FieldLaws.{presence_absent, absent_presence}
 use Rattle.arrow_read.proofs.ColumnsHold.{made_at, made_of, TablesAre, column_holds, ColumnMade, column_made}
-
-inside_Some : {A : Type 0} → (x y : A) → Some x ≡ Some y → x ≡ y
-inside_Some x y e = cc
-
-inside_Ok : {A : Type 0} → (x y : A) → (let r : Result A ArrowFault = Ok x in r) ≡ Ok y → x ≡ y
-inside_Ok x y e = cc
-
-get-map : {X Y : Type 0} → (f : X → Y) (xs : List X) (i : ℕ) (x : X) → slice_get xs i ≡ Some x → slice_get (map f xs) i ≡ Some (f x)
-get-map f [] i x e = absurd (cc)
-get-map f (y ∷ ys) zero x e = let same : y ≡ x = cc in ap (λ z. Some (f z)) same
-get-map f (y ∷ ys) (suc i) x e = get-map f ys i x e
 
 -- ---- the batch's tables
 
@@ -50,7 +41,7 @@ batch_is header batch h =
     let (nodes, en, h3) = bind_some (result_ok (vector_field header 1 16)) _ batch h2 in
     let (spans, ep, h4) = bind_some (result_ok (vector_field header 2 16)) _ batch h3 in
     let (compressed, ek, h5) = bind_some (presence header 3) _ batch h4 in
-    let is : record { count = count; nodes = nodes; spans = spans; compressed = compressed } ≡ batch = inside_Some (record { count = count; nodes = nodes; spans = spans; compressed = compressed }) batch h5 in
+    let is : record { count = count; nodes = nodes; spans = spans; compressed = compressed } ≡ batch = same_Some (record { count = count; nodes = nodes; spans = spans; compressed = compressed }) batch h5 in
     subst (BatchIs header) is (record {
       count = or_absent_is (pos 0) (i64_field header 0) size (pos count) (ok_of (i64_field header 0) size es) (not_negative_is (unwrap_or size (pos 0)) count ec);
       tables = record { nodes_are = ok_of (vector_field header 1 16) nodes en; spans_are = ok_of (vector_field header 2 16) spans ep };
@@ -60,7 +51,7 @@ batch_is header batch h =
 -- ---- the cells of a column
 
 value_of_row : (columns : List ColumnView) (k : ℕ) (column : ColumnView) (row : ℕ) → slice_get columns k ≡ Some column → value_at k (row_of columns row) ≡ cell column row
-value_of_row columns k column row e = ap (λ (o : Option Value). unwrap_or o V.Null) (get-map (λ (c : ColumnView). cell c row) columns k column e)
+value_of_row columns k column row e = ap (λ (o : Option Value). unwrap_or o V.Null) (slice_get-map (λ (c : ColumnView). cell c row) columns k column e)
 
 cells_of_rows : (columns : List ColumnView) (k : ℕ) (column : ColumnView) (numbers : List ℕ) → slice_get columns k ≡ Some column → cells k (map (row_of columns) numbers) ≡ map (cell column) numbers
 cells_of_rows columns k column [] e = refl
@@ -79,7 +70,7 @@ columns_hold t batch body place first [] columns rows tables h are = tt
 columns_hold t batch body place first (field ∷ fields) columns rows tables h are =
     let (column, ec, h1) = bind_ok (column_in batch body place first field.kind) _ columns h in
     let (more, em, h2) = bind_ok (columns_in batch body (place + 1) (first + 1 + buffer_count field.kind) fields) _ columns h1 in
-    let same : column ∷ more ≡ columns = inside_Ok (column ∷ more) columns h2 in
+    let same : column ∷ more ≡ columns = same_Ok (column ∷ more) columns h2 in
     let all : CellsAre place batch.count (column ∷ more) rows = subst (λ (cs : List ColumnView). CellsAre place batch.count cs rows) (sym same) are in
     let here : place + 0 ≡ place = omega arith in
     let cells_are : cells place rows ≡ map (cell column) (range_with_len 0 batch.count) = ap (λ (n : ℕ). cells n rows) (sym here) ∙ all 0 column refl in (
@@ -89,19 +80,15 @@ columns_hold t batch body place first (field ∷ fields) columns rows tables h a
     )
 
 columns_length : (batch : BatchTables) (body : List ℕ) (place first : ℕ) (fields : List Field) (columns : List ColumnView) → columns_in batch body place first fields ≡ Ok columns → length columns ≡ length fields
-columns_length batch body place first [] columns h = ap length (sym (inside_Ok [] columns h))
+columns_length batch body place first [] columns h = ap length (sym (same_Ok [] columns h))
 columns_length batch body place first (field ∷ fields) columns h =
     let (column, ec, h1) = bind_ok (column_in batch body place first field.kind) _ columns h in
     let (more, em, h2) = bind_ok (columns_in batch body (place + 1) (first + 1 + buffer_count field.kind) fields) _ columns h1 in
-    ap length (sym (inside_Ok (column ∷ more) columns h2)) ∙ ap suc (columns_length batch body (place + 1) (first + 1 + buffer_count field.kind) fields more em)
-
-length-columns : (f : ColumnView → Value) (columns : List ColumnView) → length (map f columns) ≡ length columns
-length-columns f [] = refl
-length-columns f (c ∷ cs) = ap suc (length-columns f cs)
+    ap length (sym (same_Ok (column ∷ more) columns h2)) ∙ ap suc (columns_length batch body (place + 1) (first + 1 + buffer_count field.kind) fields more em)
 
 widths : (columns : List ColumnView) (width : ℕ) (numbers : List ℕ) → length columns ≡ width → AllByRecursion (λ row. length row.0 ≡ width) (map (row_of columns) numbers)
 widths columns width [] e = tt
-widths columns width (n ∷ ns) e = (length-columns (λ (c : ColumnView). cell c n) columns ∙ e, widths columns width ns e)
+widths columns width (n ∷ ns) e = (length-map columns (λ (c : ColumnView). cell c n) ∙ e, widths columns width ns e)
 
 pub batch_holds : (header : TableView) (batch : BatchTables) (body : List ℕ) (schema : Schema) (columns : List ColumnView) → batch_in header ≡ Some batch → batch.compressed ≡ false → columns_in batch body 0 0 schema.0 ≡ Ok columns
     → BatchHolds header body schema (rows_of columns batch.count)
@@ -125,15 +112,11 @@ pub record ColumnsMade (batch : BatchTables) (body : List ℕ) (place first : �
   pub read : columns_in batch body place first fields ≡ Ok columns
   pub cells_are : CellsAre place batch.count columns rows
 
-length-cells : (k : ℕ) (rows : List Row) → length (cells k rows) ≡ length rows
-length-cells k [] = refl
-length-cells k (row ∷ rows) = ap suc (length-cells k rows)
-
 columns_made : (t : TableView) (batch : BatchTables) (body : List ℕ) (place first : ℕ) (fields : List Field) (rows : List Row) → TablesAre t batch → batch.count ≡ length rows → ColumnsHold t body place first fields rows
     → ColumnsMade batch body place first fields rows
 columns_made t batch body place first [] rows tables count h = record { columns = []; read = refl; cells_are = λ i c e. absurd (cc) }
 columns_made t batch body place first (field ∷ fields) rows tables count h =
-    let one : ColumnMade batch body place first field.kind (cells place rows) = column_made t batch body place first field.kind (cells place rows) tables (count ∙ sym (length-cells place rows)) h.0 in
+    let one : ColumnMade batch body place first field.kind (cells place rows) = column_made t batch body place first field.kind (cells place rows) tables (count ∙ sym (length-map rows (value_at place))) h.0 in
     let rest : ColumnsMade batch body (place + 1) (first + 1 + buffer_count field.kind) fields rows = columns_made t batch body (place + 1) (first + 1 + buffer_count field.kind) fields rows tables count h.1 in
     record {
       columns = one.column ∷ rest.columns;
@@ -144,7 +127,7 @@ columns_made t batch body place first (field ∷ fields) rows tables count h =
     each : (column : ColumnView) (more : List ColumnView) → cells place rows ≡ map (cell column) (range_with_len 0 batch.count) → CellsAre (place + 1) batch.count more rows → CellsAre place batch.count (column ∷ more) rows
     each column more one rest zero c e =
         let here : place + 0 ≡ place = omega arith in
-        ap (λ (n : ℕ). cells n rows) here ∙ one ∙ ap (λ (x : ColumnView). map (cell x) (range_with_len 0 batch.count)) (inside_Some column c e)
+        ap (λ (n : ℕ). cells n rows) here ∙ one ∙ ap (λ (x : ColumnView). map (cell x) (range_with_len 0 batch.count)) (same_Some column c e)
     each column more one rest (suc i) c e = let there : place + suc i ≡ place + 1 + i = omega arith in ap (λ (n : ℕ). cells n rows) there ∙ rest i c e
 
 same_values : (f : ColumnView → Value) (columns : List ColumnView) (values : List Value) → length columns ≡ length values → ((k : ℕ) (c : ColumnView) → slice_get columns k ≡ Some c → f c ≡ unwrap_or (slice_get values k) V.Null) → map f columns ≡ values
@@ -154,11 +137,6 @@ same_values f (c ∷ cs) [] l h = absurd (omega arith)
 same_values f (c ∷ cs) (v ∷ vs) l h =
     ap (λ (x : Value). x ∷ map f cs) (h 0 c refl) ∙ ap (λ (xs : List Value). v ∷ xs) (same_values f cs vs (omega arith) (λ k x e. h (suc k) x e))
 
-All-at : {X : Type 0} → (P : X → Type 0) (xs : List X) (i : ℕ) (x : X) → AllByRecursion P xs → slice_get xs i ≡ Some x → P x
-All-at P [] i x h e = absurd (cc)
-All-at P (y ∷ ys) zero x h e = let same : y ≡ x = cc in subst P same h.0
-All-at P (y ∷ ys) (suc i) x h e = All-at P ys i x h.1 e
-
 row_is : (columns : List ColumnView) (rows : List Row) (i : ℕ) (row : Row) → length columns ≡ length row.0 → CellsAre 0 (length rows) columns rows → slice_get rows i ≡ Some row → row_of columns i ≡ row
 row_is columns rows i row width are e =
     let f : ColumnView → Value = λ c. cell c i in
@@ -166,7 +144,7 @@ row_is columns rows i row width are e =
     let here : k ≡ 0 + k = omega arith in
     let there : 0 + i ≡ i = omega arith in
     let column : cells k rows ≡ map (cell c) (range_with_len 0 (length rows)) = ap (λ (n : ℕ). cells n rows) here ∙ are k c g in
-    let value : slice_get (map (cell c) (range_with_len 0 (length rows))) i ≡ Some (value_at k row) = ap (λ (vs : List Value). slice_get vs i) (sym column) ∙ get-map (value_at k) rows i row e in
+    let value : slice_get (map (cell c) (range_with_len 0 (length rows))) i ≡ Some (value_at k row) = ap (λ (vs : List Value). slice_get vs i) (sym column) ∙ slice_get-map (value_at k) rows i row e in
     let m = made_at (cell c) 0 (length rows) i (value_at k row) value in
     ap (cell c) (sym there) ∙ m.1) in
     ap (λ (vs : List Value). let r : Row = record { 0 = vs } in r) values
@@ -197,6 +175,6 @@ batch_made header body schema rows h =
       columns_are = made.read;
       rows_are = made_of (row_of made.columns) 0 rows (λ i row e.
           let here : 0 + i ≡ i = omega arith in
-          let width : length row.0 ≡ length schema.0 = All-at (λ (r : Row). length r.0 ≡ length schema.0) rows i row (recursion_from_All (λ (r : Row). length r.0 ≡ length schema.0) rows h.widths) e in
+          let width : length row.0 ≡ length schema.0 = subst (λ (r : Row). length r.0 ≡ length schema.0) (get_or_from_slice_get rows i row row e) (All-get_or (λ (r : Row). length r.0 ≡ length schema.0) rows i row (slice_get_within rows i row e) h.widths) in
           ap (row_of made.columns) here ∙ row_is made.columns rows i row (wide ∙ sym width) made.cells_are e);
     }

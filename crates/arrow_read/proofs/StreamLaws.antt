@@ -2,7 +2,8 @@
 use Rattle.std.proofs.Common.{◌≡◌, ℕ, zero, suc, ◌+◌, ◌-◌, ◌<◌, inl, inr, Bool, true, false, cond, eqb, List, [], ◌∷◌, length, Option, None, Some, Result, Ok, Err, arith, refl, ap, ◌∙◌, subst, sym}
 use Rattle.std.specs.Prelude.{pos, option_map}
 use Rattle.std.specs.List.{flat_map}
-use Rattle.std.proofs.lemmas.Bool.Decides.{nat_tests}
+use Rattle.std.proofs.lemmas.Bool.{eqb-true, eq-eqb, ne_eqb}
+use Rattle.std.proofs.lemmas.Option.{same_Some}
 use Rattle.std.proofs.lemmas.List.{append-nil}
 use Rattle.cn_types.specs.declared.row.Row.{Row}
 use Rattle.cn_types.specs.declared.schema.Schema.{Schema}
@@ -20,31 +21,16 @@ use Rattle.arrow_read.specs.Tables.{FieldView, head_in, schema_in, first_header,
 use Rattle.arrow_read.specs.Columns.{rows_of}
 use Rattle.arrow_read.specs.Reading.{◌>>=◌, or_fault, metadata_size, metadata_at, body_at, schema_of, if_more, first_message, if_plain, batch_at, one_more, mark_or_batch, next_batch, and_more, batches_to, batches_from, gathered, if_wanted, stream_in}
 use Rattle.arrow_read.specs.Laws.{IsWanted, HoldsWanted, StreamsAreRead, StreamsHoldOne, WrittenStreamsAreRead}
-use Rattle.arrow_read.proofs.Chains.{bind_ok, fault_ok}
+use Rattle.arrow_read.proofs.Chains.{same_Ok, bind_ok, fault_ok}
 use Rattle.arrow_read.proofs.SchemaLaws.{schema_holds, schema_read}
 use Rattle.arrow_read.proofs.MessageLaws.{size_is, is_size, message_stands, message_read}
 use Rattle.arrow_read.proofs.BufferLaws.{within_of}
 use Rattle.arrow_read.proofs.BatchLoop.{batch_is, next_is, progress, batches_end, batches_more}
 use Rattle.arrow_read.proofs.RowLaws.{batch_holds, batch_made}
 
-inside_Some : {A : Type 0} → (x y : A) → Some x ≡ Some y → x ≡ y
-inside_Some x y e = cc
-
-inside_Ok : {A : Type 0} → (x y : A) → (let r : Result A ArrowFault = Ok x in r) ≡ Ok y → x ≡ y
-inside_Ok x y e = cc
-
-same_nat : (n m : ℕ) → eqb n m ≡ true → n ≡ m
-same_nat n m h = grind (arith, nat_tests)
-
-nat_same : (n : ℕ) → eqb n n ≡ true
-nat_same n = grind (arith, nat_tests)
-
-nat_less : (n m : ℕ) → n < m → eqb n m ≡ false
-nat_less n m h = grind (arith, nat_tests)
-
 -- ---- the beginning
 
-more_is : (size found : ℕ) → if_more size ≡ Ok found → eqb size 0 ≡ false
+pub more_is : (size found : ℕ) → if_more size ≡ Ok found → eqb size 0 ≡ false
 more_is size found h = by_test (eqb size 0) refl h
   where
     by_test : (b : Bool) → eqb size 0 ≡ b → cond b (Err Truncated) (Ok size) ≡ Ok found → eqb size 0 ≡ false
@@ -56,14 +42,14 @@ schema_header : (head : Head) (fields : Option (List FieldView)) (schema : Schem
 schema_header head fields schema h k = by_one (eqb head.number 1) refl h
   where
     no_schema : Some None ≡ Some fields → ⊥
-    no_schema e = let bad : schema_of None ≡ Ok schema = subst (λ (o : Option (List FieldView)). schema_of o ≡ Ok schema) (sym (inside_Some None fields e)) k in cc
+    no_schema e = let bad : schema_of None ≡ Ok schema = subst (λ (o : Option (List FieldView)). schema_of o ≡ Ok schema) (sym (same_Some None fields e)) k in cc
 
     by_three : (b : Bool) → cond b None (Some None) ≡ Some fields → ⊥
     by_three true g = cc
     by_three false g = no_schema g
 
     by_one : (b : Bool) → eqb head.number 1 ≡ b → cond b (schema_in head.header) (cond (eqb head.number 3) None (Some None)) ≡ Some fields → (head.number ≡ 1) × (schema_in head.header ≡ Some fields)
-    by_one true e g = (same_nat head.number 1 e, g)
+    by_one true e g = (eqb-true head.number 1 e, g)
     by_one false e g = absurd (by_three (eqb head.number 3) g)
 
 pub begins : (bytes : List ℕ) (schema : Schema) (next : ℕ) → first_message bytes ≡ Ok (schema, next) → BeginsWithSchema bytes schema next
@@ -76,7 +62,7 @@ begins bytes schema next h =
     let (found, ek, h5) = bind_ok (schema_of fields) _ (schema, next) h4 in
     let (body, eb, h6) = bind_ok (body_at bytes (8 + size) head.body) _ (schema, next) h5 in
     let s = schema_header head fields found (fault_ok (BadTable 0) (first_header head) fields ef) ek in
-    let same : (found, 8 + size + head.body) ≡ (schema, next) = inside_Ok (found, 8 + size + head.body) (schema, next) h6 in
+    let same : (found, 8 + size + head.body) ≡ (schema, next) = same_Ok (found, 8 + size + head.body) (schema, next) h6 in
     let message : MessageAt bytes 0 head.number head.header body (8 + size + head.body) = message_stands bytes 0 size head body es (fault_ok (BadTable 0) (head_in (metadata_at bytes 0 size)) head eh) eb in
     let begun : BeginsWithSchema bytes found (8 + size + head.body) = record {
       header = head.header;
@@ -106,18 +92,18 @@ end_is bytes schema at h = by_end (eqb at (length bytes)) refl h
     by_size : (size : ℕ) (b : Bool) → metadata_size bytes at ≡ Ok size → eqb size 0 ≡ b → cond b (Ok None) (batch_at bytes schema at size >>= one_more) ≡ Ok None → IsEnd bytes at
     by_size size true e z k =
         let s = size_is bytes at size e in
-        inr (record { mark_is = s.mark_is; size_is = s.size_is ∙ ap (λ (n : ℕ). Ok (pos n)) (same_nat size 0 z) })
+        inr (record { mark_is = s.mark_is; size_is = s.size_is ∙ ap (λ (n : ℕ). Ok (pos n)) (eqb-true size 0 z) })
     by_size size false e z k = absurd (no_batch (batch_at bytes schema at size) k)
 
     by_end : (b : Bool) → eqb at (length bytes) ≡ b → cond b (Ok None) (metadata_size bytes at >>= mark_or_batch bytes schema at) ≡ Ok None → IsEnd bytes at
-    by_end true e k = inl (same_nat at (length bytes) e)
+    by_end true e k = inl (eqb-true at (length bytes) e)
     by_end false e k =
         let (size, es, k1) = bind_ok (metadata_size bytes at) (mark_or_batch bytes schema at) None k in
         by_size size (eqb size 0) es refl k1
 
 ended : (bytes : List ℕ) (schema : Schema) (at : ℕ) → IsEnd bytes at → next_batch bytes schema at ≡ Ok None
 unfolding next_batch
-ended bytes schema at (inl e) = rw e (rw (nat_same (length bytes)) refl)
+ended bytes schema at (inl e) = rw e (rw (eq-eqb (length bytes) (length bytes) refl) refl)
 ended bytes schema at (inr m) = by_end (eqb at (length bytes))
   where
     size : metadata_size bytes at ≡ Ok 0
@@ -133,15 +119,15 @@ pub batch_header : (head : Head) (found : BatchTables) → later_header head ≡
 batch_header head found h = by_three (eqb head.number 3) refl h
   where
     inside : (o : Option BatchTables) → option_map (λ b. Some b) o ≡ Some (Some found) → o ≡ Some found
-    inside (Some b) e = inside_Some (Some b) (Some found) e
+    inside (Some b) e = same_Some (Some b) (Some found) e
     inside None e = absurd (cc)
 
     by_one : (b : Bool) → cond b None (Some None) ≡ Some (Some found) → ⊥
     by_one true g = cc
-    by_one false g = let e : None ≡ Some found = inside_Some None (Some found) g in cc
+    by_one false g = let e : None ≡ Some found = same_Some None (Some found) g in cc
 
     by_three : (b : Bool) → eqb head.number 3 ≡ b → cond b (option_map (λ b. Some b) (batch_in head.header)) (cond (eqb head.number 1) None (Some None)) ≡ Some (Some found) → (head.number ≡ 3) × (batch_in head.header ≡ Some found)
-    by_three true e g = (same_nat head.number 3 e, inside (batch_in head.header) g)
+    by_three true e g = (eqb-true head.number 3 e, inside (batch_in head.header) g)
     by_three false e g = absurd (by_one (eqb head.number 1) g)
 
 -- what is read of the next batch it holds
@@ -172,12 +158,12 @@ batches_hold (suc most) bytes schema at batches l h =
   where
     by_found : (found : Option Part) → next_batch bytes schema at ≡ Ok found → and_more (batches_to most bytes schema) found ≡ Ok batches
         → ((next : ℕ) (more : List (List Row)) → length bytes - next < most → batches_to most bytes schema next ≡ Ok more → BatchesHold bytes schema next more) → BatchesHold bytes schema at batches
-    by_found None e k rest = subst (BatchesHold bytes schema at) (inside_Ok [] batches k) (over at (end_is bytes schema at e))
+    by_found None e k rest = subst (BatchesHold bytes schema at) (same_Ok [] batches k) (over at (end_is bytes schema at e))
     by_found (Some part) e k rest =
         let (more, em, k1) = bind_ok (batches_to most bytes schema part.next) _ batches k in
         let p = progress bytes schema at part e in
         let b = batch_stands bytes schema at part e in
-        subst (BatchesHold bytes schema at) (inside_Ok (rows_of part.columns part.count ∷ more) batches k1)
+        subst (BatchesHold bytes schema at) (same_Ok (rows_of part.columns part.count ∷ more) batches k1)
         (batch at part.next b.header b.body (rows_of part.columns part.count) more b.message b.holds (rest part.next more (omega (arith, p.0, p.1)) em))
 
 -- a batch that is held is read
@@ -193,7 +179,7 @@ next_made bytes schema at next header body rows message holds =
     let m = message_read bytes at 3 header body next message in
     let b = batch_made header body schema rows holds in
     let s = size_is bytes at m.size m.size_is in
-    let inside : eqb at (length bytes) ≡ false = nat_less at (length bytes) (omega (arith, s.within)) in
+    let inside : eqb at (length bytes) ≡ false = ne_eqb at (length bytes) (λ e. omega (arith, s.within)) in
     let tables : later_header (record { number = 3; header = header; body = length body }) ≡ Some (Some b.batch) = ap (option_map (λ t. Some t)) b.batch_is in
     let plain : if_plain (Some b.batch) ≡ Ok b.batch = rw b.plain refl in
     record {
@@ -218,7 +204,7 @@ wanted_is Any found u h = tt
 wanted_is ExactlyOne found u h = by_test (eqb found 1) refl h
   where
     by_test : (b : Bool) → eqb found 1 ≡ b → cond b (Ok tt) (Err (BatchCount found)) ≡ Ok u → found ≡ 1
-    by_test true e k = same_nat found 1 e
+    by_test true e k = eqb-true found 1 e
     by_test false e k = absurd (cc)
 
 is_wanted : (want : Batches) (found : ℕ) → IsWanted want found → if_wanted want found ≡ Ok tt
@@ -226,7 +212,7 @@ is_wanted Any found h = refl
 is_wanted ExactlyOne found h = rw h refl
 
 gathered_is : (r : Result (List (List Row)) ArrowFault) (read : List Row × ℕ) → gathered r ≡ Ok read → (batches : List (List Row)) × (r ≡ Ok batches) × (read ≡ (flat_map (λ rows. rows) batches, length batches))
-gathered_is (Ok batches) read h = (batches, refl, sym (inside_Ok (flat_map (λ rows. rows) batches, length batches) read h))
+gathered_is (Ok batches) read h = (batches, refl, sym (same_Ok (flat_map (λ rows. rows) batches, length batches) read h))
 gathered_is (Err f) read h = absurd (cc)
 
 stream_holds : (bytes : List ℕ) (want : Batches) (schema : Schema) (rows : List Row) → stream_in bytes want ≡ Ok (schema, rows) → HoldsWanted bytes want schema rows
@@ -236,7 +222,7 @@ stream_holds bytes want schema rows h =
     let (read, er, h2) = bind_ok (gathered (batches_from bytes start.0 start.1)) _ (schema, rows) h1 in
     let (unit, ew, h3) = bind_ok (if_wanted want read.1) _ (schema, rows) h2 in
     let (batches, ea, ed) = gathered_is (batches_from bytes start.0 start.1) read er in
-    let same : (start.0, read.0) ≡ (schema, rows) = inside_Ok (start.0, read.0) (schema, rows) h3 in
+    let same : (start.0, read.0) ≡ (schema, rows) = same_Ok (start.0, read.0) (schema, rows) h3 in
     let schema_is : start.0 ≡ schema = ap (λ (p : Schema × List Row). p.0) same in
     let begins_it : BeginsWithSchema bytes start.0 start.1 = begins bytes start.0 start.1 eb in
     let hold : BatchesHold bytes start.0 start.1 batches = batches_hold (suc (length bytes - start.1)) bytes start.0 start.1 batches (omega arith) ea in (
@@ -261,11 +247,11 @@ pub streams_hold_one : StreamsHoldOne
 streams_hold_one bytes schema other batches others h k =
     let first : first_message bytes ≡ Ok (schema, h.next) = begun bytes schema h.next h.begins in
     let second : first_message bytes ≡ Ok (other, k.next) = begun bytes other k.next k.begins in
-    let same : (schema, h.next) ≡ (other, k.next) = inside_Ok (schema, h.next) (other, k.next) (sym first ∙ second) in
+    let same : (schema, h.next) ≡ (other, k.next) = same_Ok (schema, h.next) (other, k.next) (sym first ∙ second) in
     let all : batches_from bytes schema h.next ≡ Ok batches = batches_read bytes schema h.batches_are in
     let rest : batches_from bytes other k.next ≡ Ok others = batches_read bytes other k.batches_are in
     let moved : batches_from bytes other k.next ≡ Ok batches = subst (λ (p : Schema × ℕ). batches_from bytes p.0 p.1 ≡ Ok batches) same all in
-    (ap (λ (p : Schema × ℕ). p.0) same, inside_Ok batches others (sym moved ∙ rest))
+    (ap (λ (p : Schema × ℕ). p.0) same, same_Ok batches others (sym moved ∙ rest))
 
 pub written_streams_are_read : WrittenStreamsHold → WrittenStreamsAreRead
 written_streams_are_read hold schema rows want can mem = held_read _ want schema rows (rows ∷ [], hold schema rows can mem, one want, sym (append-nil rows))
