@@ -175,8 +175,16 @@ text_made offsets texts row from to ef et l w =
     rw (ef, et) (rw (is_not_negative from, is_not_negative to, le-leb from to l, le-leb to (length texts) w) refl)
 
 -- one of the two offsets of a text
-pub one_offset : (r : Result ℤ FlatFault) (a b : ℕ) → r ≡ Ok (pos a) → r ≡ Ok (pos b) → a ≡ b
+one_offset : (r : Result ℤ FlatFault) (a b : ℕ) → r ≡ Ok (pos a) → r ≡ Ok (pos b) → a ≡ b
 one_offset r a b e f = cc
+
+-- a text that stands behind rising offsets
+pub text_read : (offsets texts : List ℕ) (count row : ℕ) (text : List ℕ) → row < count → OffsetsRise count offsets texts → TextStands offsets texts row text → text_at offsets texts row ≡ Some text
+text_read offsets texts count row text l rise s =
+    let o = rise row l in
+    let same : o.1 ≡ s.to = one_offset (i32_at offsets (4 * (row + 1))) o.1 s.to o.3 s.to_is in
+    let within : s.to ≤ length texts = subst (λ (n : ℕ). n ≤ length texts) same o.5 in
+    text_made offsets texts row s.from s.to s.from_is s.to_is s.rises within ∙ ap (λ z. Some z) s.bytes
 
 pub offsets_rise : (count : ℕ) (offsets texts : List ℕ) → all_below count (is_text_place offsets texts) ≡ true → OffsetsRise count offsets texts
 offsets_rise count offsets texts h row l = by_text (text_at offsets texts row) refl (all_below_at count (is_text_place offsets texts) h row l)

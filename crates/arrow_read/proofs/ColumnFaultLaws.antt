@@ -1,5 +1,5 @@
 -- A column's fault is the first one in the order of the format's tests.
-use Rattle.std.proofs.Common.{◌≡◌, ℕ, zero, suc, ◌+◌, ◌*◌, ◌<◌, ◌≤◌, ◌⊎◌, inl, inr, Bool, true, false, cond, List, [], ◌∷◌, length, Option, None, Some, Result, Ok, Err, arith, refl, ap, ◌∙◌, subst, sym}
+use Rattle.std.proofs.Common.{◌≡◌, ℕ, zero, suc, ◌+◌, ◌<◌, ◌⊎◌, inl, inr, Bool, true, false, cond, List, [], ◌∷◌, Option, None, Some, Result, Ok, Err, arith, refl, ap, ◌∙◌, subst, sym}
 use Rattle.std.specs.Prelude.{ℤ, pos, unwrap_or, is_some, IsUtf8}
 use Rattle.std.proofs.lemmas.Bool.{both_ways, lt-ltb}
 use Rattle.std.proofs.lemmas.Option.{same_Some}
@@ -8,8 +8,8 @@ use Rattle.cn_types.specs.declared.value.DataType.{DataType}
 use Rattle.cn_types.specs.declared.value.DataType.TheVariants as K
 use Rattle.cn_types.specs.declared.schema.Field.{Field}
 use Rattle.flat_tables.specs.Views.{TableView, VectorView}
-use Rattle.flat_tables.specs.Reading.{i32_at, vector_field}
-use Rattle.arrow_ipc.specs.Holds.{BuffersAt, TextStands, AreLongEnough, buffer_count}
+use Rattle.flat_tables.specs.Reading.{vector_field}
+use Rattle.arrow_ipc.specs.Holds.{BuffersAt, AreLongEnough, buffer_count}
 use Rattle.arrow_read.specs.declared.fault.ArrowFault.{ArrowFault}
 use Rattle.arrow_read.specs.declared.fault.ArrowFault.TheVariants.{BadLength, BadBuffer, NotUtf8, BadDate}
 use Rattle.arrow_read.specs.declared.pair.Pair.{Pair}
@@ -23,7 +23,7 @@ use Rattle.arrow_read.proofs.Chains.{fault_ok}
 use Rattle.arrow_read.proofs.Steps.{only_if}
 use Rattle.arrow_read.proofs.Below.{all_below_at, no_fault_at, no_fault_from, fault_at}
 use Rattle.arrow_read.proofs.Texts.{is_utf8-false, is_utf8_text}
-use Rattle.arrow_read.proofs.BufferLaws.{in_pair, one_vector, buffer_read, buffer_made, present_is, is_present_of, integer_there, text_stands, text_made, one_offset}
+use Rattle.arrow_read.proofs.BufferLaws.{in_pair, one_vector, buffer_read, buffer_made, present_is, is_present_of, integer_there, text_stands, text_read}
 use Rattle.arrow_read.proofs.ColumnLaws.{others, column_of, day_is, is_day_of}
 use Rattle.arrow_read.proofs.RowLaws.{batch_is}
 use Rattle.arrow_read.proofs.ColumnsHold.{TablesAre, sound_is, NodeIs, node_is, buffers_are, others_at, others_are, values_made, long_enough, is_long, sound_parts, same_number, parts_sound}
@@ -180,12 +180,7 @@ faulty_cell K.Integer va vs ts place count row f l long h = absurd h.1
 faulty_cell K.Long va vs ts place count row f l long h = absurd h.1
 faulty_cell K.Text va vs ts place count row f l long h =
     let p : is_present va row ≡ true = is_present_of va row h.0 in
-    let s : TextStands vs ts row h.1.0 = h.1.1 in
-    let o = long row l in
-    let same : o.1 ≡ s.to = one_offset (i32_at vs (4 * (row + 1))) o.1 s.to o.3 s.to_is in
-    let within : s.to ≤ length ts = subst (λ (n : ℕ). n ≤ length ts) same o.5 in
-    let text : text_at vs ts row ≡ Some h.1.0 = text_made vs ts row s.from s.to s.from_is s.to_is s.rises within ∙ ap (λ z. Some z) s.bytes in
-    let none : utf8_at vs ts row ≡ None = no_utf8_text vs ts row h.1.0 text (utf8_none h.1.0 h.1.2) in
+    let none : utf8_at vs ts row ≡ None = no_utf8_text vs ts row h.1.0 (text_read vs ts count row h.1.0 l long h.1.1) (utf8_none h.1.0 h.1.2) in
     rw (p, none) (ap (λ z. Some z) (sym h.1.3))
 faulty_cell K.Date va vs ts place count row f l long h =
     let p : is_present va row ≡ true = is_present_of va row h.0 in

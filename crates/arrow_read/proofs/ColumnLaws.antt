@@ -1,5 +1,5 @@
 -- A column is read exactly where its buffers hold it.
-use Rattle.std.proofs.Common.{◌≡◌, ℕ, ◌+◌, ◌*◌, ◌<◌, ◌≤◌, Bool, true, false, cond, ◌&&◌, List, [], ◌∷◌, length, Option, None, Some, arith, refl, ap, ◌∙◌, subst, sym}
+use Rattle.std.proofs.Common.{◌≡◌, ℕ, ◌<◌, ◌≤◌, Bool, true, false, cond, ◌&&◌, List, [], ◌∷◌, Option, None, Some, arith, refl, ap, ◌∙◌, subst, sym}
 use Rattle.std.specs.Prelude.{ℤ, pos, negsuc, unwrap_or, IsUtf8, ◌≤ℤ◌, int_le, if◌then◌else◌}
 use Rattle.std.specs.Cmp.{both_ways}
 use Rattle.std.proofs.lemmas.Bool.{leb-true, le-leb, and_parts}
@@ -9,7 +9,6 @@ use Rattle.cn_types.specs.declared.value.Value.{Value}
 use Rattle.cn_types.specs.declared.value.Value.TheVariants as V
 use Rattle.cn_types.specs.declared.value.DataType.{DataType}
 use Rattle.cn_types.specs.declared.value.DataType.TheVariants as K
-use Rattle.flat_tables.specs.Reading.{i32_at}
 use Rattle.arrow_ipc.specs.Columns.{has_value}
 use Rattle.arrow_ipc.specs.Holds.{IsPresent, TextStands, CellStands, OffsetsRise, AreLongEnough}
 use Rattle.arrow_read.specs.declared.fault.ArrowFault.TheVariants.{BadDate}
@@ -17,7 +16,7 @@ use Rattle.arrow_read.specs.Tables.{utf8}
 use Rattle.arrow_read.specs.Columns.{ColumnView, bit_in, is_present, number_4, text_at, utf8_at, text_value, value_in, cell, is_long_enough, is_day, text_fault, date_fault, row_fault}
 use Rattle.arrow_read.proofs.Steps.{bind_some}
 use Rattle.arrow_read.proofs.Texts.{utf8_is, is_utf8_text}
-use Rattle.arrow_read.proofs.BufferLaws.{bit_is, is_bit, present_is, is_present_of, absent_is, is_absent_of, integer_there, long_there, text_stands, text_made, one_offset}
+use Rattle.arrow_read.proofs.BufferLaws.{bit_is, is_bit, present_is, is_present_of, absent_is, is_absent_of, integer_there, long_there, text_stands, text_read}
 
 -- ---- the buffers behind the validity, and the column of all
 
@@ -131,11 +130,7 @@ reads_null place column row n =
 
 text_of_stands : (offsets texts : List ℕ) (count row : ℕ) (text : List ℕ) → row < count → OffsetsRise count offsets texts → TextStands offsets texts row text → IsUtf8 text → utf8_at offsets texts row ≡ Some text
 unfolding utf8_at
-text_of_stands offsets texts count row text l rise s u =
-    let o = rise row l in
-    let same : o.1 ≡ s.to = one_offset (i32_at offsets (4 * (row + 1))) o.1 s.to o.3 s.to_is in
-    let within : s.to ≤ length texts = subst (λ (n : ℕ). n ≤ length texts) same o.5 in
-    rw (text_made offsets texts row s.from s.to s.from_is s.to_is s.rises within, s.bytes) (is_utf8_text text u)
+text_of_stands offsets texts count row text l rise s u = rw (text_read offsets texts count row text l rise s) (is_utf8_text text u)
 
 pub reads : (kind : DataType) (validity values texts : List ℕ) (place count row : ℕ) (value : Value) → row < count → AreLongEnough kind count (others kind values texts) → CellStands kind validity (others kind values texts) row value
     → Reads place (column_of kind validity values texts) row value

@@ -19,7 +19,8 @@ use Rattle.arrow_read.specs.ColumnFaults.{ColumnsFaulty}
 use Rattle.arrow_read.specs.MessageFaults.{BeginsAsMessage, MetadataAt, MetadataFaulty, FirstTables, FirstFaulty, LaterTables, LaterFaulty, MessageFaultsAreFirst}
 use Rattle.arrow_read.specs.MessageFaults.{other_mark, negative_size, no_size, cut, first_metadata, first_ended, first_headless, first_without_schema, first_of_other_header, first_of_other_type, first_cut, later_metadata, later_headless, later_without_batch, later_of_other_header, later_compressed, later_cut, later_columns}
 use Rattle.arrow_read.proofs.Chains.{same_Err, fault_ok, ok_of, not_negative_is, is_not_negative}
-use Rattle.arrow_read.proofs.MessageLaws.{is_mark_byte, size_is, is_size, body_stands}
+use Rattle.arrow_read.proofs.SchemaLaws.{supported}
+use Rattle.arrow_read.proofs.MessageLaws.{is_mark_byte, metadata_is, is_metadata, body_stands}
 use Rattle.arrow_read.proofs.BufferLaws.{i32_inside}
 use Rattle.arrow_read.proofs.BatchLoop.{plain_is}
 use Rattle.arrow_read.proofs.RowLaws.{batch_is}
@@ -122,12 +123,6 @@ metadata_fault bytes at (negative_size size b e n) = rw (is_begins bytes at b, e
 metadata_fault bytes at (no_size b l) = let short : length bytes < at + 4 + 4 = omega arith in rw (is_begins bytes at b, number_none bytes (at + 4) short) refl
 metadata_fault bytes at (cut size b e l) = rw (is_begins bytes at b, e) (rw (is_not_negative size, lt-leb (at + 8 + size) (length bytes) l) refl)
 
-metadata_is : (bytes : List ℕ) (at size : ℕ) → metadata_size bytes at ≡ Ok size → MetadataAt bytes at size
-metadata_is bytes at size h = let s = size_is bytes at size h in record { mark_is = s.mark_is; size_is = s.size_is; within = s.within }
-
-is_metadata : (bytes : List ℕ) (at size : ℕ) → MetadataAt bytes at size → metadata_size bytes at ≡ Ok size
-is_metadata bytes at size m = is_size bytes at size (record { mark_is = m.mark_is; size_is = m.size_is; within = m.within })
-
 -- ---- bodies
 
 body_err : (bytes : List ℕ) (at size : ℕ) (f : ArrowFault) → body_at bytes at size ≡ Err f → (length bytes < at + size) × (Truncated ≡ f)
@@ -157,11 +152,7 @@ schema_faulty bytes size head (Some fields) f t h = by_place (unsupported fields
 -- the fields of a schema, all of which have a type
 schema_fields : (fields : Option (List FieldView)) (schema : Schema) → schema_of fields ≡ Ok schema → (seen : List FieldView) × (fields ≡ Some seen) × (unsupported seen ≡ None)
 schema_fields None schema h = absurd (cc)
-schema_fields (Some seen) schema h = by_place (unsupported seen) refl h
-  where
-    by_place : (o : Option ℕ) → unsupported seen ≡ o → if_supported seen o ≡ Ok schema → (found : List FieldView) × (Some seen ≡ Some found) × (unsupported found ≡ None)
-    by_place None e k = (seen, refl, e)
-    by_place (Some place) e k = absurd (cc)
+schema_fields (Some seen) schema h = (seen, refl, (supported seen (unsupported seen) schema h).0)
 
 first_faulty : (bytes : List ℕ) (f : ArrowFault) → first_message bytes ≡ Err f → FirstFaulty bytes f
 unfolding first_message

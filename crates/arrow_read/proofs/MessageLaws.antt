@@ -12,6 +12,7 @@ use Rattle.arrow_read.specs.declared.fault.ArrowFault.TheVariants.{NotAMessage, 
 use Rattle.arrow_read.specs.declared.head.Head.{Head}
 use Rattle.arrow_read.specs.Tables.{not_negative, head_in}
 use Rattle.arrow_read.specs.Reading.{◌>>=◌, or_fault, begins_as_message, if_whole, metadata_size, metadata_at, body_at}
+use Rattle.arrow_read.specs.MessageFaults.{MetadataAt}
 use Rattle.arrow_read.proofs.Chains.{bind_ok, fault_ok, ok_of, not_negative_is, is_not_negative}
 use Rattle.arrow_read.proofs.Heads.{head_is, is_head}
 
@@ -36,12 +37,7 @@ mark_is (a ∷ b ∷ c ∷ d ∷ xs) h l =
     let ed : d ≡ 255 = eqb-true d 255 s.0 in
     rw (ea, eb, ec, ed) refl
 
--- ---- the size of the metadata
-
-pub record SizeIs (bytes : List ℕ) (at size : ℕ) : Type 0 where
-  pub mark_is : take 4 (drop at bytes) ≡ mark
-  pub size_is : i32_at bytes (at + 4) ≡ Ok (pos size)
-  pub within : at + 8 + size ≤ length bytes
+-- ---- the metadata
 
 whole_is : (bytes : List ℕ) (at size found : ℕ) → if_whole bytes at size ≡ Ok found → (size ≡ found) × (at + 8 + size ≤ length bytes)
 whole_is bytes at size found h = by_test (leb (at + 8 + size) (length bytes)) refl h
@@ -50,12 +46,12 @@ whole_is bytes at size found h = by_test (leb (at + 8 + size) (length bytes)) re
     by_test true e k = let same : size ≡ found = cc in (same, leb-true _ _ e)
     by_test false e k = absurd (cc)
 
-pub size_is : (bytes : List ℕ) (at size : ℕ) → metadata_size bytes at ≡ Ok size → SizeIs bytes at size
+pub metadata_is : (bytes : List ℕ) (at size : ℕ) → metadata_size bytes at ≡ Ok size → MetadataAt bytes at size
 unfolding metadata_size
-size_is bytes at size h = by_mark (begins_as_message (drop at bytes)) refl h
+metadata_is bytes at size h = by_mark (begins_as_message (drop at bytes)) refl h
   where
     by_mark : (b : Bool) → begins_as_message (drop at bytes) ≡ b
-        → cond b (or_fault Truncated (result_ok (i32_at bytes (at + 4))) >>= λ number. or_fault (NotAMessage at) (not_negative number) >>= λ n. if_whole bytes at n) (Err (NotAMessage at)) ≡ Ok size → SizeIs bytes at size
+        → cond b (or_fault Truncated (result_ok (i32_at bytes (at + 4))) >>= λ number. or_fault (NotAMessage at) (not_negative number) >>= λ n. if_whole bytes at n) (Err (NotAMessage at)) ≡ Ok size → MetadataAt bytes at size
     by_mark true e k =
         let (number, en, k1) = bind_ok (or_fault Truncated (result_ok (i32_at bytes (at + 4)))) _ size k in
         let (n, es, k2) = bind_ok (or_fault (NotAMessage at) (not_negative number)) _ size k1 in
@@ -73,9 +69,9 @@ size_is bytes at size h = by_mark (begins_as_message (drop at bytes)) refl h
 begins : (bytes : List ℕ) → take 4 bytes ≡ mark → begins_as_message bytes ≡ true
 begins bytes e = ap (list_all is_mark_byte) e
 
-pub is_size : (bytes : List ℕ) (at size : ℕ) → SizeIs bytes at size → metadata_size bytes at ≡ Ok size
+pub is_metadata : (bytes : List ℕ) (at size : ℕ) → MetadataAt bytes at size → metadata_size bytes at ≡ Ok size
 unfolding metadata_size
-is_size bytes at size h = rw (begins (drop at bytes) h.mark_is, h.size_is) (rw (is_not_negative size, le-leb (at + 8 + size) (length bytes) h.within) refl)
+is_metadata bytes at size h = rw (begins (drop at bytes) h.mark_is, h.size_is) (rw (is_not_negative size, le-leb (at + 8 + size) (length bytes) h.within) refl)
 
 -- ---- the message
 
@@ -109,7 +105,7 @@ body_stands bytes at size body h = by_test (leb (at + size) (length bytes)) refl
 pub message_stands : (bytes : List ℕ) (at size : ℕ) (head : Head) (body : List ℕ) → metadata_size bytes at ≡ Ok size → head_in (metadata_at bytes at size) ≡ Some head → body_at bytes (at + 8 + size) head.body ≡ Ok body
     → MessageAt bytes at head.number head.header body (at + 8 + size + head.body)
 message_stands bytes at size head body s h b =
-    let m = size_is bytes at size s in
+    let m = metadata_is bytes at size s in
     let t = head_is (metadata_at bytes at size) head h in
     let stands = body_stands bytes (at + 8 + size) head.body body b in
     record {
@@ -133,7 +129,7 @@ message_read bytes at number header body next m =
     let inside : at + 8 + m.size ≤ length bytes = omega arith in
     record {
       size = m.size;
-      size_is = is_size bytes at m.size (record { mark_is = m.mark_is; size_is = m.size_is; within = inside });
+      size_is = is_metadata bytes at m.size (record { mark_is = m.mark_is; size_is = m.size_is; within = inside });
       not_end = has_bytes bytes at m.size m.table m.table_is;
       head_is = is_head (metadata_at bytes at m.size) (record { number = number; header = header; body = length body }) (record {
         table = m.table;

@@ -108,7 +108,7 @@ fields_read v start (field ∷ fields) h =
 
 -- ---- the schema
 
-supported : (fields : List FieldView) (o : Option ℕ) (schema : Schema) → if_supported fields o ≡ Ok schema → (o ≡ None) × (record { 0 = map field_of fields } ≡ schema)
+pub supported : (fields : List FieldView) (o : Option ℕ) (schema : Schema) → if_supported fields o ≡ Ok schema → (o ≡ None) × (record { 0 = map field_of fields } ≡ schema)
 supported fields None schema h = let e : record { 0 = map field_of fields } ≡ schema = same_Ok _ schema h in (refl, e)
 supported fields (Some place) schema h = absurd (cc)
 

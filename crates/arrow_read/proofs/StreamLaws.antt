@@ -23,7 +23,7 @@ use Rattle.arrow_read.specs.Reading.{◌>>=◌, or_fault, metadata_size, metadat
 use Rattle.arrow_read.specs.Laws.{IsWanted, HoldsWanted, StreamsAreRead, StreamsHoldOne, WrittenStreamsAreRead}
 use Rattle.arrow_read.proofs.Chains.{same_Ok, bind_ok, fault_ok}
 use Rattle.arrow_read.proofs.SchemaLaws.{schema_holds, schema_read}
-use Rattle.arrow_read.proofs.MessageLaws.{size_is, is_size, message_stands, message_read}
+use Rattle.arrow_read.proofs.MessageLaws.{metadata_is, is_metadata, message_stands, message_read}
 use Rattle.arrow_read.proofs.BufferLaws.{within_of}
 use Rattle.arrow_read.proofs.BatchLoop.{batch_is, next_is, progress, batches_end, batches_more}
 use Rattle.arrow_read.proofs.RowLaws.{batch_holds, batch_made}
@@ -91,7 +91,7 @@ end_is bytes schema at h = by_end (eqb at (length bytes)) refl h
 
     by_size : (size : ℕ) (b : Bool) → metadata_size bytes at ≡ Ok size → eqb size 0 ≡ b → cond b (Ok None) (batch_at bytes schema at size >>= one_more) ≡ Ok None → IsEnd bytes at
     by_size size true e z k =
-        let s = size_is bytes at size e in
+        let s = metadata_is bytes at size e in
         inr (record { mark_is = s.mark_is; size_is = s.size_is ∙ ap (λ (n : ℕ). Ok (pos n)) (eqb-true size 0 z) })
     by_size size false e z k = absurd (no_batch (batch_at bytes schema at size) k)
 
@@ -107,7 +107,7 @@ ended bytes schema at (inl e) = rw e (rw (eq-eqb (length bytes) (length bytes) r
 ended bytes schema at (inr m) = by_end (eqb at (length bytes))
   where
     size : metadata_size bytes at ≡ Ok 0
-    size = is_size bytes at 0 (record { mark_is = m.mark_is; size_is = m.size_is; within = omega (arith, within_of bytes (at + 4) (pos 0) m.size_is) })
+    size = is_metadata bytes at 0 (record { mark_is = m.mark_is; size_is = m.size_is; within = omega (arith, within_of bytes (at + 4) (pos 0) m.size_is) })
 
     by_end : (b : Bool) → cond b (Ok None) (metadata_size bytes at >>= mark_or_batch bytes schema at) ≡ Ok None
     by_end true = refl
@@ -178,7 +178,7 @@ unfolding next_batch batch_at
 next_made bytes schema at next header body rows message holds =
     let m = message_read bytes at 3 header body next message in
     let b = batch_made header body schema rows holds in
-    let s = size_is bytes at m.size m.size_is in
+    let s = metadata_is bytes at m.size m.size_is in
     let inside : eqb at (length bytes) ≡ false = ne_eqb at (length bytes) (λ e. omega (arith, s.within)) in
     let tables : later_header (record { number = 3; header = header; body = length body }) ≡ Some (Some b.batch) = ap (option_map (λ t. Some t)) b.batch_is in
     let plain : if_plain (Some b.batch) ≡ Ok b.batch = rw b.plain refl in
