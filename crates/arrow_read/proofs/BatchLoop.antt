@@ -126,10 +126,6 @@ abbrev pub with_rows : List Row → ℕ → Result (List Row × ℕ) ArrowFault 
 with_rows rows found (Ok more) = Ok (rows ++ more.0, found + more.1)
 with_rows rows found (Err e) = Err e
 
-pub with_none : (r : Result (List Row × ℕ) ArrowFault) → with_rows [] 0 r ≡ r
-with_none (Ok more) = let e : 0 + more.1 ≡ more.1 = omega arith in ap (λ (n : ℕ). let r : Result (List Row × ℕ) ArrowFault = Ok (more.0, n) in r) e
-with_none (Err e) = refl
-
 pub rows_end : (bytes : List ℕ) (schema : Schema) (at : ℕ) (rows : List Row) (found : ℕ) → next_batch bytes schema at ≡ Ok None → with_rows rows found (gathered (batches_from bytes schema at)) ≡ Ok (rows, found)
 rows_end bytes schema at rows found e = let n : found + 0 ≡ found = omega arith in rw (batches_end bytes schema at e) (rw (append-nil rows, n) refl)
 

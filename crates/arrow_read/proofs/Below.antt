@@ -1,9 +1,8 @@
 -- Tests, misses and faults of the numbers below one.
-use Rattle.std.proofs.Common.{◌≡◌, ℕ, zero, suc, ◌+◌, ◌<◌, ◌⊎◌, inl, inr, Bool, true, false, cond, ◌&&◌, Option, None, Some, arith, refl, ap, ◌∙◌, subst, sym}
-use Rattle.std.specs.Prelude.{is_some, option_map}
+use Rattle.std.proofs.Common.{◌≡◌, ℕ, zero, suc, ◌<◌, ◌⊎◌, inl, inr, Bool, true, false, ◌&&◌, Option, None, Some, arith, refl, ap, ◌∙◌, subst, sym}
 use Rattle.std.proofs.lemmas.Bool.{both_ways, cases_lt, and_parts, false_from_ne_true}
 use Rattle.arrow_read.specs.declared.fault.ArrowFault.{ArrowFault}
-use Rattle.arrow_read.specs.Columns.{all_below, misses_below, later, first_fault}
+use Rattle.arrow_read.specs.Columns.{all_below, later, first_fault}
 
 -- a number below the next one is below this one or is it
 split : (i n : ℕ) → i < suc n → (i < n) ⊎ (i ≡ n)
@@ -20,17 +19,8 @@ all_below_from zero test h = refl
 all_below_from (suc n) test h =
     ap (λ (b : Bool). b && test n) (all_below_from n test (λ i l. h i (omega arith))) ∙ h n (omega arith)
 
-pub all_below_step : (n : ℕ) (test : ℕ → Bool) → all_below n test ≡ true → test n ≡ true → all_below (n + 1) test ≡ true
-all_below_step n test h t = let next : n + 1 ≡ suc n = omega arith in rw next (rw h t)
-
 pub all_below_miss : (n : ℕ) (test : ℕ → Bool) (i : ℕ) → i < n → test i ≡ false → all_below n test ≡ false
 all_below_miss n test i l f = false_from_ne_true (all_below n test) (λ e. both_ways (test i) f (all_below_at n test e i l))
-
-pub misses_step : (n : ℕ) (test : ℕ → Bool) → misses_below (n + 1) test ≡ misses_below n test + cond (test n) 0 1
-misses_step n test = let next : n + 1 ≡ suc n = omega arith in rw next refl
-
-pub fault_step : (n : ℕ) (faults : ℕ → Option ArrowFault) → first_fault n faults ≡ None → faults n ≡ None → first_fault (n + 1) faults ≡ None
-fault_step n faults h f = let next : n + 1 ≡ suc n = omega arith in rw next (rw h f)
 
 pub fault_at : (n : ℕ) (faults : ℕ → Option ArrowFault) (i : ℕ) (x : ArrowFault) → i < n → first_fault i faults ≡ None → faults i ≡ Some x → first_fault n faults ≡ Some x
 fault_at zero faults i x l h f = absurd (omega arith)
@@ -56,7 +46,3 @@ no_fault_at (suc n) faults h i l = elim (split i n l) [ inl below ↦ no_fault_a
 pub no_fault_from : (n : ℕ) (faults : ℕ → Option ArrowFault) → ((i : ℕ) → i < n → faults i ≡ None) → first_fault n faults ≡ None
 no_fault_from zero faults h = refl
 no_fault_from (suc n) faults h = ap (λ (o : Option ArrowFault). later o (faults n)) (no_fault_from n faults (λ i l. h i (omega arith))) ∙ h n (omega arith)
-
-pub is_none-seen : {X Y : Type 0} → (f : X → Y) (o : Option X) (p : Option Y) → option_map f o ≡ p → is_some o ≡ is_some p
-is_none-seen f (Some x) p e = ap is_some e
-is_none-seen f None p e = ap is_some e

@@ -28,9 +28,6 @@ pub ok_of : {A : Type 0} → (r : Result A FlatFault) (x : A) → result_ok r �
 ok_of (Ok y) x h = let same : y ≡ x = cc in ap (λ z. Ok z) same
 ok_of (Err e) x h = absurd (cc)
 
-pub of_ok : {A : Type 0} → (r : Result A FlatFault) (x : A) → r ≡ Ok x → result_ok r ≡ Some x
-of_ok r x h = ap result_ok h
-
 -- a field that may be absent
 pub or_absent_is : {A : Type 0} → (d : A) (r : Result (Option A) FlatFault) (o : Option A) (x : A) → r ≡ Ok o → unwrap_or o d ≡ x → or_absent d r ≡ Ok x
 or_absent_is d r (Some y) x e h = ap (or_absent d) e ∙ ap (λ z. Ok z) h

@@ -233,9 +233,6 @@ pub record OthersAre (kind : DataType) (buffers : List (List ℕ)) : Type 0 wher
   pub are : buffers ≡ others kind values texts
   pub no_texts : (o : Option (List ℕ)) → (kind ≡ K.Text → o ≡ Some texts) → texts_of kind o ≡ Some texts
 
-not_text : {A : Type 0} → (kind : DataType) → (kind ≡ K.Text → ⊥) → kind ≡ K.Text → A
-not_text kind n e = absurd (n e)
-
 pub others_are : (kind : DataType) (count : ℕ) (buffers : List (List ℕ)) → AreLongEnough kind count buffers → OthersAre kind buffers
 others_are K.Boolean count [] h = absurd h
 others_are K.Boolean count (b ∷ []) h = record { values = b; texts = []; are = refl; no_texts = λ o f. refl }

@@ -9,10 +9,6 @@ abbrev pub behind : {A : Type 0} → List A → Option (List A) → Option (List
 behind done (Some more) = Some (done ++ more)
 behind done None = None
 
-pub behind-nil : {A : Type 0} → (o : Option (List A)) → behind [] o ≡ o
-behind-nil (Some more) = refl
-behind-nil None = refl
-
 pub fields_step : (v : VectorView) (done : List FieldView) (place left : ℕ) (x : FieldView) → 0 < left → field_in v place ≡ Some x → behind done (fields_from v place left) ≡ behind (done ++ x ∷ []) (fields_from v (place + 1) (left - 1))
 fields_step v done place zero x l e = absurd (omega arith)
 fields_step v done place (suc left) x l e = let same : suc left - 1 ≡ left = omega arith in rw (e, same) (next (fields_from v (place + 1) left))
@@ -20,7 +16,3 @@ fields_step v done place (suc left) x l e = let same : suc left - 1 ≡ left = o
     next : (o : Option (List FieldView)) → behind done (o >>= λ more. Some (x ∷ more)) ≡ behind (done ++ x ∷ []) o
     next (Some more) = ap (λ z. Some z) (sym (append_assoc done (x ∷ []) more))
     next None = refl
-
-pub fields_miss : (v : VectorView) (done : List FieldView) (place left : ℕ) → 0 < left → field_in v place ≡ None → behind done (fields_from v place left) ≡ None
-fields_miss v done place zero l e = absurd (omega arith)
-fields_miss v done place (suc left) l e = rw e refl

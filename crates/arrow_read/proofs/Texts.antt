@@ -10,10 +10,6 @@ use Rattle.std.proofs.lemmas.Str.{IsUtf8-from_is_utf8, is_utf8-from_IsUtf8}
 pub is_utf8-false : (bytes : List ℕ) → ¬ IsUtf8 bytes → is_utf8 bytes ≡ false
 is_utf8-false bytes refuted = false_from_ne_true (is_utf8 bytes) (λ e. refuted (IsUtf8-from_is_utf8 bytes e))
 
--- what fails the test is no UTF-8
-pub not_utf8 : (bytes : List ℕ) → is_utf8 bytes ≡ false → ¬ IsUtf8 bytes
-not_utf8 bytes e is = let yes = is_utf8-from_IsUtf8 bytes is in absurd cc
-
 -- a text that is read
 pub utf8_is : (bytes text : List ℕ) → utf8 bytes ≡ Some text → (bytes ≡ text) × IsUtf8 text
 unfolding utf8
