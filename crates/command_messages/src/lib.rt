@@ -9,7 +9,7 @@ mod write_operation;
 mod write_operation_writing;
 
 pub use command::Command;
-pub use save_table::{SaveTable, save_table_from};
+pub use save_table::SaveTable;
 pub use table_field::table_depth;
 pub use write_operation::{WriteOperation, write_operation_like, write_operation_over};
 pub use write_operation_writing::{put_write_operation_rest, write_operation_rest_size};

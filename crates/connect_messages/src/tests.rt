@@ -2,6 +2,7 @@ use super::*;
 use MessageFault::{NotUtf8, TooDeep, Wire};
 use cn_base::{Bytes, Copied, OutOfMemory};
 use expression_messages::put_message_head;
+use plan_messages::decode_plan;
 use proto_fields::{MessageFault, MessageWriter};
 use proto_wire::WireFault;
 use std::alloc::Global;
@@ -63,7 +64,7 @@ fn are_written(
 }
 
 /// Methods, bytes, how the request is written again, and how many messages are nested in it.
-static REQUESTS: [(Method, &[u8], &[u8], u32); 12] = [
+static REQUESTS: [(Method, &[u8], &[u8], u32); 16] = [
     // All fields: session_id, user_context, the plan of a range, reattach_options, operation_id, two tags.
     (
         Method::ExecutePlan,
@@ -77,6 +78,34 @@ static REQUESTS: [(Method, &[u8], &[u8], u32); 12] = [
         b"\x3a\x01t\x2a\x04\x0a\x02\x08\x01\x2a\x02\x0a\x00\x1a\x04\x0a\x02\x7a\x00\x0a\x01s",
         b"\x0a\x01s\x1a\x04\x0a\x02\x7a\x00\x3a\x01t",
         4,
+    ),
+    // A command that writes the rows of a range.
+    (
+        Method::ExecutePlan,
+        b"\x1a\x08\x12\x06\x12\x04\x0a\x02\x7a\x00",
+        b"\x1a\x08\x12\x06\x12\x04\x0a\x02\x7a\x00",
+        6,
+    ),
+    // A command with all fields: source, table with its method, mode.
+    (
+        Method::ExecutePlan,
+        b"\x1a\x14\x12\x12\x12\x10\x0a\x02\x7a\x00\x12\x01\x63\x22\x05\x0a\x01\x74\x10\x01\x28\x01",
+        b"\x1a\x14\x12\x12\x12\x10\x0a\x02\x7a\x00\x12\x01\x63\x22\x05\x0a\x01\x74\x10\x01\x28\x01",
+        6,
+    ),
+    // Of a relation, a command and a relation in one plan the last counts, without the first.
+    (
+        Method::ExecutePlan,
+        b"\x1a\x16\x0a\x06\x7a\x04\x08\x01\x10\x05\x12\x06\x12\x04\x0a\x02\x7a\x00\x0a\x04\x7a\x02\x10\x03",
+        b"\x1a\x06\x0a\x04\x7a\x02\x10\x03",
+        4,
+    ),
+    // A filter whose two payloads are one message.
+    (
+        Method::ExecutePlan,
+        b"\x1a\x16\x0a\x14\x22\x0a\x0a\x08\x7a\x06\x08\x00\x10\x03\x18\x01\x22\x06\x12\x04\x0a\x02\x18\x01",
+        b"\x1a\x14\x0a\x12\x22\x10\x0a\x08\x7a\x06\x08\x00\x10\x03\x18\x01\x12\x04\x0a\x02\x18\x01",
+        6,
     ),
     (
         Method::AnalyzePlan,
@@ -169,11 +198,34 @@ fn what_is_outside_the_profile_has_no_spelling(rt: HostRuntime) -> Result<(), Fa
 }
 
 /// Bytes that are no request of a method, and their first fault.
-static FAULTS: [(Method, &[u8], MessageFault); 3] = [
+static FAULTS: [(Method, &[u8], MessageFault); 7] = [
     (
         Method::ExecutePlan,
         b"\x12\x03\x0a\x01\xff",
         NotUtf8 { at: 4 },
+    ),
+    // The name of a table in a relation that a later command replaces.
+    (
+        Method::ExecutePlan,
+        b"\x1a\x12\x0a\x08\x12\x06\x0a\x04\x0a\x02\xc3\x28\x12\x06\x12\x04\x0a\x02\x7a\x00",
+        NotUtf8 { at: 10 },
+    ),
+    // The request's own fields come before those of its plan.
+    (
+        Method::ExecutePlan,
+        b"\x1a\x0a\x0a\x08\x12\x06\x0a\x04\x0a\x02\xc3\x28\x0b",
+        Wire(WireFault::BadTag { at: 12 }),
+    ),
+    // Of two names the first in the bytes.
+    (
+        Method::ExecutePlan,
+        b"\x1a\x0a\x0a\x08\x12\x06\x0a\x04\x0a\x02\xc3\x28\x3a\x02\xc3\x28",
+        NotUtf8 { at: 10 },
+    ),
+    (
+        Method::ExecutePlan,
+        b"\x3a\x02\xc3\x28\x1a\x0a\x0a\x08\x12\x06\x0a\x04\x0a\x02\xc3\x28",
+        NotUtf8 { at: 2 },
     ),
     // In a payload that a later member replaces.
     (
@@ -198,8 +250,8 @@ fn faults_have_their_places(rt: HostRuntime) {
     }
 }
 
-/// A request to execute this relation within 98 limits.
-fn deep(alloc: Global, relation: &[u8]) -> Result<Bytes, OutOfMemory> {
+/// A plan of this relation within 98 limits, each of which is two messages deep.
+fn limited(alloc: Global, relation: &[u8]) -> Result<Bytes, OutOfMemory> {
     let mut out = MessageWriter::new(alloc);
     out.put_payload(1, relation)?;
     for _ in 0..97 {
@@ -208,7 +260,33 @@ fn deep(alloc: Global, relation: &[u8]) -> Result<Bytes, OutOfMemory> {
     }
     put_message_head(&mut out, 8, 0)?;
     put_message_head(&mut out, 1, 0)?;
-    put_message_head(&mut out, 3, 0)?;
+    Ok(out.finish())
+}
+
+#[test]
+fn plans_of_98_limits_are_read(rt: HostRuntime) -> Result<(), Fail> {
+    let bytes = limited(rt.alloc(), b"\x7a\x00")?;
+    let plan = decode_plan(rt.alloc(), bytes.as_slice())?;
+    assert_eq!(rt; plan.depth(), 199);
+    Ok(())
+}
+
+#[test]
+fn plans_of_99_limits_are_too_deep(rt: HostRuntime) -> Result<(), Fail> {
+    let bytes = limited(rt.alloc(), b"\x42\x04\x0a\x02\x7a\x00")?;
+    match decode_plan(rt.alloc(), bytes.as_slice()) {
+        Ok(_) => panic!(rt; "not too deep"),
+        Err(TooDeep { at }) => assert_eq!(rt; at, bytes.len()),
+        Err(fault) => panic!(rt; "{fault:?}"),
+    }
+    Ok(())
+}
+
+/// A request to execute such a plan.
+fn deep(alloc: Global, relation: &[u8]) -> Result<Bytes, OutOfMemory> {
+    let plan = limited(alloc, relation)?;
+    let mut out = MessageWriter::new(alloc);
+    out.put_payload(3, plan.as_slice())?;
     Ok(out.finish())
 }
 

@@ -56,7 +56,8 @@ pub fn leaf_member<R: Drop>(
     }
 }
 
-/// The member over one input that a message's records hold, with so many levels of nesting for an expression in it.
+/// The member over one input that a message's records hold, with so many levels of nesting for an expression in it. Its number is 3, 4, 7, 8, 9,
+/// 13, 14, 16, 18, 19, 21 or 23; any other is read as 23.
 #[tactic(auto, unfolding(crate::specs::Members::unary_of))]
 pub fn unary_member<R: Drop>(
     alloc: Global,
@@ -83,7 +84,8 @@ pub fn unary_member<R: Drop>(
     }
 }
 
-/// The member over two inputs that a message's records hold, with so many levels of nesting for an expression in it.
+/// The member over two inputs that a message's records hold, with so many levels of nesting for an expression in it. Its number is 5 or 6; any
+/// other is read as 6.
 #[tactic(auto, unfolding(crate::specs::Members::binary_of))]
 pub fn binary_member<R: Drop>(
     alloc: Global,
