@@ -1,53 +1,26 @@
 -- What a write operation is spelled as, besides its relation, is read as the operation behind the field of any relation.
-use Rattle.std.proofs.Common.{◌≡◌, ℕ, ℤ, pos, ◌-◌, ◌<◌, ◌≤◌, List, [], ◌∷◌, ◌++◌, Option, None, Some, refl, ap, ◌∙◌, arith}
-use Rattle.std.specs.Prelude.{IfSome, FitsSigned, IsUtf8, option_map, unwrap_or}
-use Rattle.std.specs.Int.{w32}
-use Rattle.std.specs.List.{AllByRecursion}
-use Rattle.std.specs.Str.Lossy.{utf8_lossy}
+use Rattle.std.proofs.Common.{◌≡◌, ℕ, ℤ, ◌-◌, ◌≤◌, List, ◌++◌, Option, None, Some, refl, ap, ◌∙◌, arith}
+use Rattle.std.specs.Prelude.{IfSome, option_map}
 use Rattle.std.proofs.lemmas.List.{append-nil}
 use Rattle.proto_fields.specs.declared.kind.MessageKind.TheVariants as kinds
 use Rattle.proto_fields.specs.declared.kind.PayloadKind.TheVariants.{Message}
 use Rattle.proto_fields.specs.Fields.{Field, fields_of}
 use Rattle.proto_fields.specs.Kinds.{payload_of}
-use Rattle.proto_fields.specs.Readings.{int32_of, int32_field, text_field, optional_text, payloads, joined, merged}
+use Rattle.proto_fields.specs.Readings.{payloads, joined, merged}
 use Rattle.proto_fields.specs.Spelling.{spell, int_fields, text_fields, optional_payload_fields}
-use Rattle.proto_fields.proofs.PieceLemmas.{AllByRecursion-append}
-use Rattle.proto_fields.proofs.ReturnLemmas.{text_back, optional_text_back, int32_back}
 use Rattle.expression_messages.specs.Laws.{IsShort, IsReadBack}
-use Rattle.expression_messages.proofs.Pieces.{Stands, nothing_stands, two_stand, three_stand, read_back, short_two, short_payload, IsNumber, is_numbered, HaveNumber, Piece, payload_piece, text_piece, optional_text_piece, int_piece, wider, payloads_one}
+use Rattle.expression_messages.proofs.Pieces.{Stands, nothing_stands, two_stand, read_back, short_two, short_payload, Piece, payload_piece, text_piece, optional_text_piece, int_piece, wider, payloads_one}
 use Rattle.command_messages.specs.declared.save_table.SaveTable.{SaveTable}
 use Rattle.command_messages.specs.declared.write_operation.WriteOperation.{WriteOperation}
 use Rattle.command_messages.specs.Commands.{save_table_of, write_operation_of}
 use Rattle.command_messages.specs.Spelled.{save_table_fields, write_operation_rest}
 use Rattle.command_messages.specs.Depths.{table_depth}
 use Rattle.command_messages.specs.Known.{HasSaveTableBits, HasWriteOperationBits}
-use Rattle.field_groups.specs.Groups.{AreUpTo, ReadsAs}
-use Rattle.field_groups.proofs.Among.{are_others, alone, before, behind, behind_others}
-use Rattle.field_groups.proofs.Groups.{ThreeRead, three_read, ThreeShort, three_short}
-use Rattle.field_groups.proofs.Rests.{others_up_to, RestBack}
-
-is_1 : IsNumber 1
-is_1 = is_numbered 1 (omega arith) (omega arith)
-
-is_2 : IsNumber 2
-is_2 = is_numbered 2 (omega arith) (omega arith)
-
-is_4 : IsNumber 4
-is_4 = is_numbered 4 (omega arith) (omega arith)
-
-is_5 : IsNumber 5
-is_5 = is_numbered 5 (omega arith) (omega arith)
-
--- ---- texts and numbers among fields of other numbers
-
-text_read : (number : ℕ) (whole : List Field) (text : List ℕ) → ReadsAs number whole (text_fields number text) → IsUtf8 text → text_field number whole ≡ text
-text_read number whole text reads utf8 = ap (λ (p : Option (List ℕ)). unwrap_or (option_map utf8_lossy p) []) reads.payload_is ∙ text_back number text utf8
-
-optional_text_read : (number : ℕ) (whole : List Field) (text : Option (List ℕ)) → ReadsAs number whole (optional_payload_fields number text) → IfSome text IsUtf8 → optional_text number whole ≡ text
-optional_text_read number whole text reads utf8 = ap (option_map utf8_lossy) reads.payload_is ∙ optional_text_back number text utf8
-
-int32_read : (number : ℕ) (whole : List Field) (value : ℤ) → ReadsAs number whole (int_fields number value) → FitsSigned w32 value → int32_field number whole ≡ value
-int32_read number whole value reads fits = ap (λ (n : Option ℕ). unwrap_or (option_map int32_of n) (pos 0)) reads.number_is ∙ int32_back number value fits
+use Rattle.field_groups.specs.Groups.{ReadsAs}
+use Rattle.field_groups.proofs.Among.{are_others, alone, before, behind}
+use Rattle.field_groups.proofs.Groups.{ThreeShort, three_short}
+use Rattle.field_groups.proofs.Rests.{RestBack, three_rest}
+use Rattle.field_groups.proofs.Scalars.{is_1, is_2, is_4, is_5, text_read, optional_text_read, int32_read, no_payloads}
 
 -- ---- the table
 
@@ -99,10 +72,6 @@ table_piece level (Some table) bits short deep =
     let few = short_payload 4 payload short in
     payload_piece level kinds.WriteOperation 4 (Message kinds.SaveTable) payload is_4 refl (table_back level table bits few deep).sound few
 
-no_payloads : (number : ℕ) → payloads number [] ≡ []
-unfolding payloads
-no_payloads number = refl
-
 table_by : List (List ℕ) → Option SaveTable
 table_by payloads = option_map save_table_of (joined payloads)
 
@@ -118,11 +87,6 @@ table_read whole (Some table) reads bits short =
 
 -- ---- the operation
 
--- fields of one number have numbers above a lower one
-all_above : (low number : ℕ) (fields : List Field) → HaveNumber number fields → low < number → AllByRecursion (λ field. low < field.number) fields
-all_above low number [] numbered less = tt
-all_above low number (field ∷ fields) numbered less = let same = numbered.0 in (omega (arith, same, less), all_above low number fields numbered.1 less)
-
 same_operation : {R : Type 0} (input : R) {source source2 : Option (List ℕ)} {table table2 : Option SaveTable} {mode mode2 : ℤ} → source ≡ source2 → table ≡ table2 → mode ≡ mode2 →
     ◌≡◌ {A = WriteOperation R} (record { input = input; source = source; table = table; mode = mode }) (record { input = input; source = source2; table = table2; mode = mode2 })
 same_operation input source_is table_is mode_is = rw source_is (rw table_is (rw mode_is refl))
@@ -130,7 +94,8 @@ same_operation input source_is table_is mode_is = rw source_is (rw table_is (rw 
 pub write_operation_back : {R : Type 0} (level : ℕ) (it : WriteOperation R) → HasWriteOperationBits it → IsShort (write_operation_rest it) → table_depth it.table ≤ level →
     RestBack level 1 kinds.WriteOperation (write_operation_rest it) (write_operation_of it.input) it
 unfolding payload_of table_fields
-write_operation_back {R} level it bits short deep = record { stands = stands; above = above; same = same }
+write_operation_back {R} level it bits short deep =
+    three_rest level 1 2 4 5 kinds.WriteOperation source table mode (write_operation_of it.input) it source_piece a_piece mode_piece (omega arith) (omega arith) (omega arith) same
   where
     source : List Field
     source = optional_payload_fields 2 it.source
@@ -140,9 +105,6 @@ write_operation_back {R} level it bits short deep = record { stands = stands; ab
 
     mode : List Field
     mode = int_fields 5 it.mode
-
-    whole : List Field
-    whole = source ++ table ++ mode
 
     shorts : ThreeShort source table mode
     shorts = three_short source table mode short
@@ -156,20 +118,8 @@ write_operation_back {R} level it bits short deep = record { stands = stands; ab
     mode_piece : Piece level kinds.WriteOperation 5 mode
     mode_piece = int_piece level kinds.WriteOperation 5 it.mode is_5 (wider it.mode bits.mode)
 
-    stands : Stands level kinds.WriteOperation whole
-    stands = three_stand level kinds.WriteOperation source table mode source_piece.stands a_piece.stands mode_piece.stands
-
-    above : AllByRecursion (λ field. 1 < field.number) whole
-    above =
-        AllByRecursion-append (λ field. 1 < field.number) (source ++ table) mode
-        (AllByRecursion-append (λ field. 1 < field.number) source table (all_above 1 2 source source_piece.numbered (omega arith)) (all_above 1 4 table a_piece.numbered (omega arith)))
-        (all_above 1 5 mode mode_piece.numbered (omega arith))
-
-    reads : ThreeRead 2 4 5 source table mode
-    reads = three_read 2 4 5 source table mode source_piece.numbered a_piece.numbered mode_piece.numbered (omega arith) (omega arith)
-
-    same : (front : List Field) → AreUpTo 1 front → write_operation_of it.input (front ++ whole) ≡ it
-    same front few = same_operation it.input
-        (optional_text_read 2 (front ++ whole) it.source (behind_others 2 front whole source reads.first (others_up_to 1 2 front few (omega arith))) bits.source)
-        (table_read (front ++ whole) it.table (behind_others 4 front whole table reads.second (others_up_to 1 4 front few (omega arith))) bits.table shorts.second)
-        (int32_read 5 (front ++ whole) it.mode (behind_others 5 front whole mode reads.third (others_up_to 1 5 front few (omega arith))) bits.mode)
+    same : (whole : List Field) → ReadsAs 2 whole source → ReadsAs 4 whole table → ReadsAs 5 whole mode → write_operation_of it.input whole ≡ it
+    same whole source_reads table_reads mode_reads = same_operation it.input
+        (optional_text_read 2 whole it.source source_reads bits.source)
+        (table_read whole it.table table_reads bits.table shorts.second)
+        (int32_read 5 whole it.mode mode_reads bits.mode)

@@ -5,20 +5,21 @@ use Rattle.std.proofs.lemmas.Bool.{false≢true}
 use Rattle.proto_fields.specs.declared.kind.MessageKind.TheVariants as kinds
 use Rattle.proto_fields.specs.declared.kind.PayloadKind.TheVariants.{Message}
 use Rattle.proto_fields.specs.Fields.{Field}
-use Rattle.proto_fields.specs.Kinds.{is_member, payload_of}
+use Rattle.proto_fields.specs.Kinds.{payload_of}
 use Rattle.proto_fields.specs.Readings.{Member}
 use Rattle.proto_fields.specs.Spelling.{spell, payload_fields, text_fields}
-use Rattle.proto_fields.proofs.PieceLemmas.{AllByRecursion-append}
 use Rattle.expression_messages.specs.Messages.{message_at}
 use Rattle.expression_messages.specs.Laws.{IsShort, IsReadBack}
 use Rattle.expression_messages.proofs.Pieces.{Stands, three_stand, read_back, short_payload, IsNumber, is_numbered, Piece, payload_piece, text_piece, payloads_one, message_at-one}
 use Rattle.expression_messages.proofs.TypeBack.{empty_sound}
 use Rattle.field_groups.specs.Groups.{AreOthers}
-use Rattle.field_groups.proofs.Among.{are_others, behind, AreNoMembers, no_members, latest_one}
+use Rattle.field_groups.proofs.Among.{are_others, behind, two_others}
+use Rattle.field_groups.proofs.Members.{AreNoMembers, no_members, latest_behind, two_no_members}
 use Rattle.field_groups.proofs.Groups.{ThreeRead, three_read, ThreeShort, three_short, MemberBack}
 use Rattle.request_messages.specs.declared.user_context.UserContext.{UserContext}
 use Rattle.request_messages.specs.Spelled.{context_fields}
-use Rattle.request_messages.proofs.FieldsBack.{is_1, is_4, text_read, context_piece, context_read}
+use Rattle.field_groups.proofs.Scalars.{is_1, is_4, text_read}
+use Rattle.request_messages.proofs.FieldsBack.{context_piece, context_read}
 use Rattle.plan_messages.specs.declared.plan.Plan.{Plan}
 use Rattle.plan_messages.specs.Plans.{plan_at}
 use Rattle.plan_messages.specs.Spelled.{plan_fields}
@@ -82,7 +83,7 @@ analysis_back level (analysis.Schema plan) known bits short deep =
       above = omega arith;
       piece = payload_piece level kinds.AnalyzePlanRequest 4 (Message kinds.AnalyzedPlan) payload is_4 refl back.sound few;
       same = λ front apart others.
-          ap (analysis_by level) (latest_one kinds.AnalyzePlanRequest 4 front payload apart refl)
+          ap (analysis_by level) (latest_behind kinds.AnalyzePlanRequest 4 front payload apart refl)
           ∙ ap (λ (p : Plan). analysis.Schema p) (analyzed_read level 4 front plan others back);
     }
 analysis_back level (analysis.IsStreaming plan) known bits short deep =
@@ -94,14 +95,14 @@ analysis_back level (analysis.IsStreaming plan) known bits short deep =
       above = omega arith;
       piece = payload_piece level kinds.AnalyzePlanRequest 8 (Message kinds.AnalyzedPlan) payload is_8 refl back.sound few;
       same = λ front apart others.
-          ap (analysis_by level) (latest_one kinds.AnalyzePlanRequest 8 front payload apart refl)
+          ap (analysis_by level) (latest_behind kinds.AnalyzePlanRequest 8 front payload apart refl)
           ∙ ap (λ (p : Plan). analysis.IsStreaming p) (analyzed_read level 8 front plan others back);
     }
 analysis_back level analysis.SparkVersion known bits short deep = record {
   number = 10;
   above = omega arith;
   piece = payload_piece level kinds.AnalyzePlanRequest 10 (Message kinds.Empty) [] is_10 refl (empty_sound level (omega arith)) (omega arith);
-  same = λ front apart others. ap (analysis_by level) (latest_one kinds.AnalyzePlanRequest 10 front [] apart refl);
+  same = λ front apart others. ap (analysis_by level) (latest_behind kinds.AnalyzePlanRequest 10 front [] apart refl);
 }
 analysis_back level (analysis.Other number) known bits short deep = absurd (false≢true known)
 
@@ -147,14 +148,14 @@ analyze_back level request known bits short deep = read_back level kinds.Analyze
     reads = three_read 1 2 back.number session context member session_piece.numbered a_piece.numbered back.piece.numbered (omega arith) back.above
 
     apart : AreNoMembers kinds.AnalyzePlanRequest (session ++ context)
-    apart = AllByRecursion-append (λ field. is_member kinds.AnalyzePlanRequest field.number field.content ≡ false) session context
+    apart = two_no_members kinds.AnalyzePlanRequest session context
         (no_members kinds.AnalyzePlanRequest 1 session (record { payload = refl; varint = refl }) session_piece.numbered)
         (no_members kinds.AnalyzePlanRequest 2 context (record { payload = refl; varint = refl }) a_piece.numbered)
 
     others : AreOthers back.number (session ++ context)
     others =
         let above = back.above in
-        AllByRecursion-append (λ field. field.number ≢ back.number) session context
+        two_others back.number session context
         (are_others back.number 1 session session_piece.numbered (omega arith)) (are_others back.number 2 context a_piece.numbered (omega arith))
 
     same : analyze_at level whole ≡ request

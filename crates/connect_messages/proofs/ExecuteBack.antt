@@ -1,23 +1,20 @@
 -- What requests to execute a plan are spelled as is read as the requests.
-use Rattle.std.proofs.Common.{◌≡◌, ℕ, ◌-◌, ◌<◌, ◌≤◌, Bool, List, ◌++◌, map, Option, refl, ap, ◌∙◌, arith}
-use Rattle.std.specs.Prelude.{IsUtf8}
-use Rattle.std.specs.List.{AllByRecursion}
-use Rattle.std.specs.Str.Lossy.{utf8_lossy}
+use Rattle.std.proofs.Common.{◌≡◌, ℕ, ◌-◌, ◌<◌, ◌≤◌, Bool, List, ◌++◌, Option, refl, ap, ◌∙◌, arith}
 use Rattle.proto_fields.specs.declared.kind.MessageKind.TheVariants as kinds
 use Rattle.proto_fields.specs.declared.kind.PayloadKind.TheVariants.{Message}
 use Rattle.proto_fields.specs.Fields.{Field}
 use Rattle.proto_fields.specs.Kinds.{payload_of}
-use Rattle.proto_fields.specs.Readings.{texts}
 use Rattle.proto_fields.specs.Spelling.{spell, payload_fields, text_fields, optional_payload_fields}
 use Rattle.expression_messages.specs.Messages.{message_at, repeated_fields}
 use Rattle.expression_messages.specs.Laws.{IsShort, IsReadBack}
-use Rattle.expression_messages.proofs.Pieces.{Stands, two_stand, three_stand, read_back, short_two, short_payload, short_repeated, IsNumber, is_numbered, Piece, payload_piece, text_piece, optional_text_piece, texts_piece, payloads_one, payloads_repeated, message_at-one, texts_back}
+use Rattle.expression_messages.proofs.Pieces.{Stands, two_stand, three_stand, read_back, short_two, short_payload, short_repeated, Piece, payload_piece, text_piece, optional_text_piece, texts_piece, payloads_one, message_at-one}
 use Rattle.field_groups.specs.Groups.{AreOthers, ReadsAs}
 use Rattle.field_groups.proofs.Among.{before_others, behind_others}
 use Rattle.field_groups.proofs.Groups.{ThreeRead, three_read, ThreeShort, three_short, three_others}
 use Rattle.request_messages.specs.declared.user_context.UserContext.{UserContext}
 use Rattle.request_messages.specs.Spelled.{context_fields, reattachable_fields}
-use Rattle.request_messages.proofs.FieldsBack.{is_1, is_3, is_6, text_read, optional_text_read, context_piece, context_read, reattachable_piece, reattachable_read}
+use Rattle.field_groups.proofs.Scalars.{is_1, is_3, is_6, is_7, text_read, optional_text_read, texts_read}
+use Rattle.request_messages.proofs.FieldsBack.{context_piece, context_read, reattachable_piece, reattachable_read}
 use Rattle.plan_messages.specs.declared.plan.Plan.{Plan}
 use Rattle.plan_messages.specs.Plans.{plan_at}
 use Rattle.plan_messages.specs.Spelled.{plan_fields}
@@ -28,13 +25,6 @@ use Rattle.connect_messages.specs.Requests.{execute_at}
 use Rattle.connect_messages.specs.Spelled.{execute_fields}
 use Rattle.connect_messages.specs.Depths.{execute_depth}
 use Rattle.connect_messages.specs.Known.{HasExecuteBits}
-
-is_7 : IsNumber 7
-is_7 = is_numbered 7 (omega arith) (omega arith)
-
--- texts of a repeated field
-texts_read : (number : ℕ) (whole : List Field) (items : List (List ℕ)) → ReadsAs number whole (repeated_fields number items) → AllByRecursion IsUtf8 items → texts number whole ≡ items
-texts_read number whole items reads utf8 = ap (map utf8_lossy) (reads.payloads_are ∙ payloads_repeated number items) ∙ texts_back items utf8
 
 same_execute : {session session2 : List ℕ} {context context2 : Option UserContext} {plan plan2 : Plan} {flag flag2 : Bool} {operation operation2 : Option (List ℕ)} {tags tags2 : List (List ℕ)} →
     session ≡ session2 → context ≡ context2 → plan ≡ plan2 → flag ≡ flag2 → operation ≡ operation2 → tags ≡ tags2 →

@@ -19,7 +19,7 @@ use Rattle.expression_messages.specs.Spelled.{expr_fields, alias_fields, sort_or
 use Rattle.expression_messages.specs.Depths.{largest, expr_depth, alias_depth, sort_order_depth}
 use Rattle.expression_messages.specs.Known.{is_known_expr, HasExprBits, HasAliasBits, HasSortOrderBits}
 use Rattle.expression_messages.specs.Laws.{IsShort}
-use Rattle.expression_messages.proofs.Pieces.{nothing_stands, short_two, short_payload, short_messages, IsNumber, is_numbered, payload_piece, payloads_one, message_at-one}
+use Rattle.expression_messages.proofs.Pieces.{nothing_stands, short_two, short_payload, short_messages, IsNumber, payload_piece, payloads_one, message_at-one}
 use Rattle.expression_messages.proofs.TypeBack.{and_true}
 use Rattle.expression_messages.proofs.ExprBack.{expr_read_back, alias_read_back, sort_order_read_back}
 use Rattle.expression_relations.specs.declared.project.Project.{Project}
@@ -33,20 +33,9 @@ use Rattle.expression_relations.specs.Reading.{project_of, filter_of, join_of, s
 use Rattle.expression_relations.specs.Spelled.{project_rest, filter_rest, join_rest, sort_rest, aggregate_rest, drop_columns_rest, with_columns_rest}
 use Rattle.expression_relations.specs.Depths.{condition_depth, project_depth, filter_depth, join_depth, sort_depth, aggregate_depth, drop_columns_depth, with_columns_depth}
 use Rattle.expression_relations.specs.Known.{is_known_condition, is_known_project, is_known_filter, is_known_join, is_known_sort, is_known_aggregate, is_known_drop_columns, is_known_with_columns, HasProjectBits, HasFilterBits, HasJoinBits, HasSortBits, HasAggregateBits, HasDropColumnsBits, HasWithColumnsBits}
-use Rattle.field_groups.proofs.Rests.{RestBack}
-use Rattle.expression_relations.proofs.Groups.{GroupBack, int_group, flag_group, texts_group, messages_group, items_back, one_rest, two_rest, three_rest}
-
-is_2 : IsNumber 2
-is_2 = is_numbered 2 (omega arith) (omega arith)
-
-is_3 : IsNumber 3
-is_3 = is_numbered 3 (omega arith) (omega arith)
-
-is_4 : IsNumber 4
-is_4 = is_numbered 4 (omega arith) (omega arith)
-
-is_5 : IsNumber 5
-is_5 = is_numbered 5 (omega arith) (omega arith)
+use Rattle.field_groups.proofs.Rests.{RestBack, one_rest, two_rest, three_rest}
+use Rattle.field_groups.proofs.Scalars.{is_2, is_3, is_4, is_5}
+use Rattle.expression_relations.proofs.Groups.{GroupBack, int_group, flag_group, texts_group, messages_group, items_back}
 
 -- ---- groups of expressions, aliases and sort orders
 

@@ -1,13 +1,12 @@
 -- Groups of fields with rising numbers, one after another: each is read by its number, each is short where the whole is, and all stand.
-use Rattle.std.proofs.Common.{◌≡◌, ◌≢◌, ℕ, ◌<◌, List, ◌++◌, false, arith}
+use Rattle.std.proofs.Common.{◌≡◌, ◌≢◌, ℕ, ◌<◌, List, ◌++◌, arith}
 use Rattle.proto_fields.specs.declared.kind.MessageKind.{MessageKind}
 use Rattle.proto_fields.specs.Fields.{Field}
-use Rattle.proto_fields.specs.Kinds.{is_member}
-use Rattle.proto_fields.proofs.PieceLemmas.{AllByRecursion-append}
 use Rattle.expression_messages.specs.Laws.{IsShort}
 use Rattle.expression_messages.proofs.Pieces.{Stands, two_stand, three_stand, short_two, HaveNumber, Piece}
 use Rattle.field_groups.specs.Groups.{AreOthers, ReadsAs}
-use Rattle.field_groups.proofs.Among.{are_others, alone, before, behind, IsNoMember, AreNoMembers, no_members}
+use Rattle.field_groups.proofs.Among.{are_others, two_others, alone, before, behind}
+use Rattle.field_groups.proofs.Members.{IsNoMember, AreNoMembers, no_members, two_no_members}
 
 -- ---- three groups
 
@@ -20,7 +19,7 @@ pub three_read : (i j k : ℕ) (a b c : List Field) → HaveNumber i a → HaveN
 three_read i j k a b c is_a is_b is_c low high = record {
   first = before i k (a ++ b) a c (before i j a a b (alone i a) is_b (omega arith)) is_c (omega arith);
   second = before j k (a ++ b) b c (behind j a b (are_others j i a is_a (omega arith))) is_c (omega arith);
-  third = behind k (a ++ b) c (AllByRecursion-append (λ field. field.number ≢ k) a b (are_others k i a is_a (omega arith)) (are_others k j b is_b (omega arith)));
+  third = behind k (a ++ b) c (two_others k a b (are_others k i a is_a (omega arith)) (are_others k j b is_b (omega arith)));
 }
 
 pub record ThreeShort (a b c : List Field) : Type 0 where
@@ -38,8 +37,8 @@ three_short a b c short =
 
 pub three_others : (number i j k : ℕ) (a b c : List Field) → HaveNumber i a → HaveNumber j b → HaveNumber k c → i ≢ number → j ≢ number → k ≢ number → AreOthers number (a ++ b ++ c)
 three_others number i j k a b c is_a is_b is_c first second third =
-    AllByRecursion-append (λ field. field.number ≢ number) (a ++ b) c
-    (AllByRecursion-append (λ field. field.number ≢ number) a b (are_others number i a is_a first) (are_others number j b is_b second))
+    two_others number (a ++ b) c
+    (two_others number a b (are_others number i a is_a first) (are_others number j b is_b second))
     (are_others number k c is_c third)
 
 pub record FourRead (i j k l : ℕ) (a b c d : List Field) : Type 0 where
@@ -85,8 +84,8 @@ pub record MemberBack {A : Type 0} (levels : ℕ) (kind : MessageKind) (low : �
 
 pub three_no_members : (kind : MessageKind) (i j k : ℕ) (a b c : List Field) → HaveNumber i a → HaveNumber j b → HaveNumber k c → IsNoMember kind i → IsNoMember kind j → IsNoMember kind k → AreNoMembers kind (a ++ b ++ c)
 three_no_members kind i j k a b c is_a is_b is_c first second third =
-    AllByRecursion-append (λ field. is_member kind field.number field.content ≡ false) (a ++ b) c
-    (AllByRecursion-append (λ field. is_member kind field.number field.content ≡ false) a b (no_members kind i a first is_a) (no_members kind j b second is_b))
+    two_no_members kind (a ++ b) c
+    (two_no_members kind a b (no_members kind i a first is_a) (no_members kind j b second is_b))
     (no_members kind k c third is_c)
 
 -- what is read of the member behind three groups

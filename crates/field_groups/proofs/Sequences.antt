@@ -1,4 +1,4 @@
--- Four groups of fields, one after another: what is written of them, and how long it is.
+-- Four and six groups of fields, one after another: what is written of them, and how long it is.
 use Rattle.std.proofs.Common.{◌≡◌, ℕ, ◌+◌, List, ◌++◌}
 use Rattle.std.specs.Prelude.{min}
 use Rattle.proto_fields.specs.Fields.{Field}
@@ -12,6 +12,12 @@ pub stand_four : (a b c d : List Field) (out one two three four : List ℕ) → 
     four ≡ spell (a ++ b ++ c ++ d) ++ out
 stand_four a b c d out one two three four one_is two_is three_is four_is =
     stand_two (a ++ b ++ c) d out one four one_is (stand_three a b c one two three four two_is three_is four_is)
+
+pub stand_six : (a b c d e f : List Field) (out one two three four five six : List ℕ) → one ≡ spell f ++ out → two ≡ spell e ++ one → three ≡ spell d ++ two →
+    four ≡ spell c ++ three → five ≡ spell b ++ four → six ≡ spell a ++ five → six ≡ spell (a ++ b ++ c ++ d ++ e ++ f) ++ out
+stand_six a b c d e f out one two three four five six one_is two_is three_is four_is five_is six_is =
+    stand_two (a ++ b ++ c ++ d ++ e) f out one six one_is
+    (stand_two (a ++ b ++ c ++ d) e one two six two_is (stand_four a b c d two three four five six three_is four_is five_is six_is))
 
 -- added up from the first piece on
 pub sized_four : (a b c d : List Field) (first second third fourth two three four : ℕ) → first ≡ size_of a → second ≡ size_of b → third ≡ size_of c → fourth ≡ size_of d →

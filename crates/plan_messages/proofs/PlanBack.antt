@@ -1,7 +1,6 @@
 -- What plans are spelled as is read as the plans.
-use Rattle.std.proofs.Common.{◌≡◌, ◌≢◌, ℕ, ◌+◌, ◌-◌, ◌<◌, ◌≤◌, max, List, [], ◌∷◌, ◌++◌, Option, refl, ap, ◌∙◌, subst, arith}
+use Rattle.std.proofs.Common.{◌≡◌, ◌≢◌, ℕ, ◌+◌, ◌-◌, ◌≤◌, List, [], ◌++◌, Option, refl, ap, ◌∙◌, subst, arith}
 use Rattle.std.specs.Prelude.{option_map, unwrap_or}
-use Rattle.std.specs.List.{AllByRecursion}
 use Rattle.std.proofs.lemmas.Bool.{false≢true}
 use Rattle.proto_fields.specs.declared.kind.MessageKind.TheVariants as kinds
 use Rattle.proto_fields.specs.declared.kind.PayloadKind.TheVariants.{Message}
@@ -12,10 +11,10 @@ use Rattle.proto_fields.specs.Readings.{Member}
 use Rattle.proto_fields.specs.Spelling.{spell, payload_fields}
 use Rattle.expression_messages.specs.Messages.{message_at}
 use Rattle.expression_messages.specs.Laws.{IsShort, IsReadBack}
-use Rattle.expression_messages.proofs.Pieces.{Stands, two_stand, read_back, short_two, short_payload, IsNumber, is_numbered, Piece, payload_piece, payloads_one, message_at-one}
-use Rattle.field_groups.specs.Groups.{AreOthers}
-use Rattle.field_groups.proofs.Among.{alone, before_others, latest_one}
-use Rattle.field_groups.proofs.Rests.{RestBack}
+use Rattle.expression_messages.proofs.Pieces.{Stands, two_stand, read_back, short_two, short_payload, Piece, payload_piece, payloads_one, message_at-one}
+use Rattle.field_groups.proofs.Among.{alone, before_others}
+use Rattle.field_groups.proofs.Members.{latest_behind}
+use Rattle.field_groups.proofs.Rests.{RestBack, others_above}
 use Rattle.command_messages.specs.declared.write_operation.WriteOperation.{WriteOperation}
 use Rattle.command_messages.specs.declared.command.Command.{Command}
 use Rattle.command_messages.specs.declared.command.Command.TheVariants as command
@@ -36,17 +35,7 @@ use Rattle.plan_messages.specs.Plans.{plan_member, plan_at}
 use Rattle.plan_messages.specs.Spelled.{plan_fields}
 use Rattle.plan_messages.specs.Depths.{plan_depth}
 use Rattle.plan_messages.specs.Known.{IsKnownPlan, HasPlanBits}
-
-is_1 : IsNumber 1
-is_1 = is_numbered 1 (omega arith) (omega arith)
-
-is_2 : IsNumber 2
-is_2 = is_numbered 2 (omega arith) (omega arith)
-
--- fields of greater numbers than the first
-no_first : (fields : List Field) → AllByRecursion (λ field. 1 < field.number) fields → AreOthers 1 fields
-no_first [] above = tt
-no_first (field ∷ fields) above = let greater : 1 < field.number = above.0 in (λ e. omega (arith, e, greater), no_first fields above.1)
+use Rattle.field_groups.proofs.Scalars.{is_1, is_2}
 
 -- ---- a command
 
@@ -85,7 +74,7 @@ operation_back level inner it left known bits input_bits short deep = read_back 
     stands = two_stand (level - 1) kinds.WriteOperation input rest input_piece.stands rest_back.stands
 
     input_found : message_at 1 (input ++ rest) ≡ fields_of payload
-    input_found = message_at-one 1 (input ++ rest) payload ((before_others 1 input input rest (alone 1 input) (no_first rest rest_back.above)).payloads_are ∙ payloads_one 1 payload)
+    input_found = message_at-one 1 (input ++ rest) payload ((before_others 1 input input rest (alone 1 input) (others_above 1 1 rest rest_back.above (omega arith))).payloads_are ∙ payloads_one 1 payload)
 
     same : operation_by inner (input ++ rest) ≡ it
     same =
@@ -106,7 +95,7 @@ command_back level inner it left known bits input_bits short deep =
     let back = operation_back (level - 1) inner it (omega (arith, left)) known bits input_bits few (omega (arith, deep)) in
     read_back level kinds.Command (payload_fields 2 payload) (command_of (relation_at inner)) (command.WriteOperation it) (omega (arith, deep))
     (payload_piece (level - 1) kinds.Command 2 (Message kinds.WriteOperation) payload is_2 refl back.sound few).stands
-    (ap (command_by inner) (latest_one kinds.Command 2 [] payload tt refl)
+    (ap (command_by inner) (latest_behind kinds.Command 2 [] payload tt refl)
     ∙ ap (λ (fields : List Field). command.WriteOperation (operation_by inner fields)) (message_at-one 2 (payload_fields 2 payload) payload (payloads_one 2 payload))
     ∙ ap (λ (operation : WriteOperation Relation). command.WriteOperation operation) back.same)
 
@@ -124,7 +113,7 @@ plan_read_back level (Root root) known bits short deep =
     let back = relation_read_back (level - 1) root known bits few (omega (arith, deep)) in
     read_back level kinds.Plan (payload_fields 1 payload) (plan_at level) (Root root) (omega (arith, deep))
     (payload_piece (level - 1) kinds.Plan 1 (Message kinds.Relation) payload is_1 refl back.sound few).stands
-    (ap (plan_by level) (latest_one kinds.Plan 1 [] payload tt refl)
+    (ap (plan_by level) (latest_behind kinds.Plan 1 [] payload tt refl)
     ∙ ap (λ (fields : List Field). Root (relation_at (level - 1) fields)) (message_at-one 1 (payload_fields 1 payload) payload (payloads_one 1 payload))
     ∙ ap (λ (relation : Relation). Root relation) back.same)
 plan_read_back level (IsCommand (command.WriteOperation it)) known bits short deep =
@@ -133,7 +122,7 @@ plan_read_back level (IsCommand (command.WriteOperation it)) known bits short de
     let back = command_back (level - 1) (level - 3) it (omega arith) known bits.0 bits.1 few (omega (arith, deep)) in
     read_back level kinds.Plan (payload_fields 2 payload) (plan_at level) (IsCommand (command.WriteOperation it)) (omega (arith, deep))
     (payload_piece (level - 1) kinds.Plan 2 (Message kinds.Command) payload is_2 refl back.sound few).stands
-    (ap (plan_by level) (latest_one kinds.Plan 2 [] payload tt refl)
+    (ap (plan_by level) (latest_behind kinds.Plan 2 [] payload tt refl)
     ∙ ap (λ (fields : List Field). IsCommand (command_of (relation_at (level - 3)) fields)) (message_at-one 2 (payload_fields 2 payload) payload (payloads_one 2 payload))
     ∙ ap (λ (it : Command Relation). IsCommand it) back.same)
 plan_read_back level (IsCommand (command.Other number)) known bits short deep = absurd (false≢true known)

@@ -1,8 +1,7 @@
 -- Messages over inputs and then a rest: each is read back where its inputs and its rest are, and a member that is the field of such a message
 -- is read back behind the field that all relations have.
-use Rattle.std.proofs.Common.{◌≡◌, ℕ, ◌+◌, ◌-◌, ◌<◌, ◌≤◌, true, List, [], ◌∷◌, ◌++◌, Option, refl, ap, ◌∙◌, subst, arith}
+use Rattle.std.proofs.Common.{◌≡◌, ℕ, ◌+◌, ◌-◌, ◌<◌, true, List, ◌++◌, Option, refl, ap, ◌∙◌, subst, arith}
 use Rattle.std.specs.Prelude.{option_map, unwrap_or}
-use Rattle.std.specs.List.{AllByRecursion}
 use Rattle.proto_fields.specs.declared.kind.MessageKind.{MessageKind}
 use Rattle.proto_fields.specs.declared.kind.MessageKind.TheVariants as kinds
 use Rattle.proto_fields.specs.declared.kind.PayloadKind.TheVariants.{Message}
@@ -12,28 +11,17 @@ use Rattle.proto_fields.specs.Readings.{Member, latest}
 use Rattle.proto_fields.specs.Spelling.{spell, payload_fields}
 use Rattle.expression_messages.specs.Messages.{message_at}
 use Rattle.expression_messages.specs.Laws.{IsShort, IsReadBack}
-use Rattle.expression_messages.proofs.Pieces.{Stands, two_stand, read_back, HaveNumber, Piece, IsNumber, is_numbered, payload_piece, payloads_one, message_at-one}
-use Rattle.field_groups.specs.Groups.{AreOthers, ReadsAs}
-use Rattle.field_groups.proofs.Among.{are_others, alone, before, behind, before_others, no_members, latest_one}
-use Rattle.field_groups.proofs.Rests.{RestBack}
+use Rattle.expression_messages.proofs.Pieces.{Stands, two_stand, read_back, HaveNumber, Piece, IsNumber, payload_piece, payloads_one, message_at-one}
+use Rattle.field_groups.specs.Groups.{ReadsAs}
+use Rattle.field_groups.proofs.Among.{are_others, alone, before, behind, before_others}
+use Rattle.field_groups.proofs.Members.{no_members, latest_behind}
+use Rattle.field_groups.proofs.Rests.{RestBack, others_above}
 use Rattle.relation_members.specs.declared.member.RelationMember.{RelationMember}
 use Rattle.relation_members.specs.declared.member.RelationMember.TheVariants as V
 use Rattle.relation_members.specs.Members.{member_of, member_at}
-
-is_1 : IsNumber 1
-is_1 = is_numbered 1 (omega arith) (omega arith)
-
-is_2 : IsNumber 2
-is_2 = is_numbered 2 (omega arith) (omega arith)
+use Rattle.field_groups.proofs.Scalars.{is_1, is_2}
 
 -- ---- messages over inputs
-
--- fields above a number are none of that number or of a lower one
-others_above : (most number : ℕ) (fields : List Field) → AllByRecursion (λ field. most < field.number) fields → number ≤ most → AreOthers number fields
-others_above most number [] above upper = tt
-others_above most number (field ∷ fields) above upper =
-    let first : most < field.number = above.0 in
-    (λ e. omega (arith, e, first, upper), others_above most number fields above.1 upper)
 
 -- one level further out
 outer : (level : ℕ) (kind : MessageKind) (fields : List Field) → Stands level kind fields → Stands (1 + level - 1) kind fields
@@ -136,7 +124,7 @@ field_back {R} {A} level number kind fields read of value made above is_number i
     same : (front : List Field) → HaveNumber 1 front → unwrap_or (option_map (member_at read level) (latest kinds.Relation (front ++ payload_fields number payload))) (V.Other 0) ≡ made value
     same front numbered =
         let whole = front ++ payload_fields number payload in
-        let found = latest_one kinds.Relation number front payload (no_members kinds.Relation 1 front (record { payload = refl; varint = refl }) numbered) member in
+        let found = latest_behind kinds.Relation number front payload (no_members kinds.Relation 1 front (record { payload = refl; varint = refl }) numbered) member in
         let reads = behind number front (payload_fields number payload) (are_others number 1 front numbered (omega (arith, above))) in
         ap (λ (m : Option Member). unwrap_or (option_map (member_at read level) m) (V.Other 0)) found
         ∙ ap (member_of read level number) (message_at-one number whole payload (reads.payloads_are ∙ payloads_one number payload))

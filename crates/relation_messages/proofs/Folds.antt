@@ -11,7 +11,6 @@ use Rattle.relation_members.specs.Spelled.{member_fields}
 use Rattle.relation_members.specs.Depths.{rest_depth, member_depth}
 use Rattle.relation_members.specs.Known.{is_known_member}
 use Rattle.relation_messages.specs.declared.relation.Relation.{Relation}
-use Rattle.relation_messages.specs.declared.relation.Relation.TheOpen.{Relation-F}
 use Rattle.relation_messages.specs.declared.relation.Relation.TheViews.{out-Relation, roll-Relation, roll-out-Relation}
 use Rattle.relation_messages.specs.declared.relation.Relation.TheFolds.{map-Relation, fold-roll-Relation}
 use Rattle.relation_messages.specs.Spelled.{common_field, relation_fields_step, relation_fields}

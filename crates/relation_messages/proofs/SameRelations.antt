@@ -1,5 +1,5 @@
 -- What is read of the relation in sound messages is the same at every level that suffices.
-use Rattle.std.proofs.Common.{◌≡◌, ℕ, zero, suc, ◌-◌, ◌<◌, ◌≤◌, List, [], ◌∷◌, ◌++◌, Option, None, Some, refl, sym, ap, ◌∙◌, arith}
+use Rattle.std.proofs.Common.{◌≡◌, ℕ, zero, suc, ◌-◌, ◌<◌, ◌≤◌, List, [], ◌∷◌, Option, None, Some, refl, sym, ap, ◌∙◌, arith}
 use Rattle.std.specs.Prelude.{option_map}
 use Rattle.std.proofs.lemmas.List.{append-nil}
 use Rattle.proto_fields.specs.declared.kind.MessageKind.TheVariants as kinds
@@ -7,7 +7,6 @@ use Rattle.proto_fields.specs.Fields.{Field, fields_of}
 use Rattle.proto_fields.specs.Faults.{IsSound}
 use Rattle.proto_fields.specs.Readings.{last_some, payloads, merged, Member, latest}
 use Rattle.expression_messages.proofs.Agreement.{AreSound, sound_some, fields_in, joined_sound, since_sound}
-use Rattle.relation_parts.specs.declared.common.RelationCommon.{RelationCommon}
 use Rattle.relation_parts.specs.Parts.{common_of}
 use Rattle.relation_members.specs.declared.member.RelationMember.{RelationMember}
 use Rattle.relation_members.specs.Members.{member_at}

@@ -1,18 +1,15 @@
 -- What the parts of a relation are spelled as is read as the parts.
-use Rattle.std.proofs.Common.{◌≡◌, ℕ, ℤ, pos, ◌-◌, ◌≤◌, List, [], ◌++◌, Option, None, Some, refl, ap, ◌∙◌, arith}
-use Rattle.std.specs.Prelude.{IfSome, FitsSigned, IsUtf8, option_map, unwrap_or}
-use Rattle.std.specs.Int.{w32, w64}
-use Rattle.std.specs.Str.Lossy.{utf8_lossy}
-use Rattle.proto_fields.specs.declared.kind.MessageKind.{MessageKind}
+use Rattle.std.proofs.Common.{◌≡◌, ℕ, ℤ, ◌-◌, ◌≤◌, List, [], ◌++◌, Option, None, Some, refl, ap, ◌∙◌, arith}
+use Rattle.std.specs.Prelude.{IfSome, IsUtf8, option_map}
 use Rattle.proto_fields.specs.declared.kind.MessageKind.TheVariants as kinds
-use Rattle.proto_fields.specs.declared.kind.PayloadKind.TheVariants.{Message, Other}
+use Rattle.proto_fields.specs.declared.kind.PayloadKind.TheVariants.{Message}
 use Rattle.proto_fields.specs.Fields.{Field}
 use Rattle.proto_fields.specs.Kinds.{payload_of}
-use Rattle.proto_fields.specs.Readings.{int32_of, int64_of, int64_field, optional_int32, optional_int64, payloads}
+use Rattle.proto_fields.specs.Readings.{payloads}
 use Rattle.proto_fields.specs.Spelling.{spell, int_fields, optional_int_fields, optional_payload_fields}
-use Rattle.proto_fields.proofs.ReturnLemmas.{int64_back, optional_int32_back, optional_int64_back, optional_payload_back, text_back, optional_text_back, message_back}
+use Rattle.proto_fields.proofs.ReturnLemmas.{optional_int64_back, optional_payload_back, text_back, message_back}
 use Rattle.expression_messages.specs.Laws.{IsShort, IsReadBack}
-use Rattle.expression_messages.proofs.Pieces.{Stands, nothing_stands, two_stand, read_back, short_two, short_payload, IsNumber, is_numbered, Piece, payload_piece, text_piece, optional_text_piece, int_piece, optional_int_piece, wider}
+use Rattle.expression_messages.proofs.Pieces.{Stands, nothing_stands, two_stand, read_back, short_two, short_payload, Piece, payload_piece, text_piece, optional_text_piece, int_piece, optional_int_piece}
 use Rattle.field_groups.specs.Groups.{ReadsAs}
 use Rattle.field_groups.proofs.Among.{are_others, alone, before, behind}
 use Rattle.field_groups.proofs.Groups.{FourRead, four_read, four_stand}
@@ -25,18 +22,8 @@ use Rattle.relation_parts.specs.Parts.{common_of, named_table_of, read_of, range
 use Rattle.relation_parts.specs.Spelled.{common_fields, named_table_fields, read_fields, range_fields, local_relation_fields}
 use Rattle.relation_parts.specs.Depths.{read_depth}
 use Rattle.relation_parts.specs.Bits.{HasCommonBits, HasReadBits, HasRangeBits, HasLocalRelationBits}
-
-is_1 : IsNumber 1
-is_1 = is_numbered 1 (omega arith) (omega arith)
-
-is_2 : IsNumber 2
-is_2 = is_numbered 2 (omega arith) (omega arith)
-
-is_3 : IsNumber 3
-is_3 = is_numbered 3 (omega arith) (omega arith)
-
-is_4 : IsNumber 4
-is_4 = is_numbered 4 (omega arith) (omega arith)
+use Rattle.field_groups.proofs.Scalars.{is_1, is_2, is_3, is_4, optional_text_read, optional_bytes_piece, int64_read, optional_int32_read, optional_int64_read}
+use Rattle.proto_fields.proofs.PieceLemmas.{IfSome-w64}
 
 -- ---- what every relation has
 
@@ -50,19 +37,6 @@ common_read_back level common bits short some =
     read_back level kinds.RelationCommon (common_fields common) common_of common (omega arith) piece.stands (same_common (optional_int64_back 2 common.plan_id bits))
 
 -- ---- ranges
-
-wider_some : (value : Option ℤ) → IfSome value (FitsSigned w32) → IfSome value (FitsSigned w64)
-wider_some None fits = tt
-wider_some (Some value) fits = wider value fits
-
-optional_int64_read : (number : ℕ) (whole : List Field) (value : Option ℤ) → ReadsAs number whole (optional_int_fields number value) → IfSome value (FitsSigned w64) → optional_int64 number whole ≡ value
-optional_int64_read number whole value reads fits = ap (option_map int64_of) reads.number_is ∙ optional_int64_back number value fits
-
-optional_int32_read : (number : ℕ) (whole : List Field) (value : Option ℤ) → ReadsAs number whole (optional_int_fields number value) → IfSome value (FitsSigned w32) → optional_int32 number whole ≡ value
-optional_int32_read number whole value reads fits = ap (option_map int32_of) reads.number_is ∙ optional_int32_back number value fits
-
-int64_read : (number : ℕ) (whole : List Field) (value : ℤ) → ReadsAs number whole (int_fields number value) → FitsSigned w64 value → int64_field number whole ≡ value
-int64_read number whole value reads fits = ap (λ (n : Option ℕ). unwrap_or (option_map int64_of n) (pos 0)) reads.number_is ∙ int64_back number value fits
 
 same_range : {start start2 : Option ℤ} {end end2 step step2 : ℤ} {partitions partitions2 : Option ℤ} → start ≡ start2 → end ≡ end2 → step ≡ step2 → partitions ≡ partitions2 →
     ◌≡◌ {A = Range} (record { start = start; end = end; step = step; num_partitions = partitions }) (record { start = start2; end = end2; step = step2; num_partitions = partitions2 })
@@ -96,7 +70,7 @@ range_read_back level range bits short some = read_back level kinds.Range whole 
     step_piece = int_piece (level - 1) kinds.Range 3 range.step is_3 bits.step
 
     partitions_piece : Piece (level - 1) kinds.Range 4 partitions
-    partitions_piece = optional_int_piece (level - 1) kinds.Range 4 range.num_partitions is_4 (wider_some range.num_partitions bits.num_partitions)
+    partitions_piece = optional_int_piece (level - 1) kinds.Range 4 range.num_partitions is_4 (IfSome-w64 range.num_partitions bits.num_partitions)
 
     stands : Stands (level - 1) kinds.Range whole
     stands = four_stand (level - 1) kinds.Range start end step partitions start_piece.stands end_piece.stands step_piece.stands partitions_piece.stands
@@ -112,11 +86,6 @@ range_read_back level range bits short some = read_back level kinds.Range whole 
         (optional_int32_read 4 whole range.num_partitions reads.fourth bits.num_partitions)
 
 -- ---- rows that a message holds
-
-bytes_piece : (levels : ℕ) (kind : MessageKind) (number : ℕ) (bytes : Option (List ℕ)) → IsNumber number → payload_of kind number ≡ Other → IsShort (optional_payload_fields number bytes) →
-    Piece levels kind number (optional_payload_fields number bytes)
-bytes_piece levels kind number None is_number is short = record { stands = nothing_stands levels kind; numbered = tt }
-bytes_piece levels kind number (Some bytes) is_number is short = payload_piece levels kind number Other bytes is_number is tt (short_payload number bytes short)
 
 same_local : {payload payload2 schema schema2 : Option (List ℕ)} → payload ≡ payload2 → schema ≡ schema2 →
     ◌≡◌ {A = LocalRelation} (record { payload = payload; schema = schema }) (record { payload = payload2; schema = schema2 })
@@ -134,7 +103,7 @@ local_relation_read_back level local bits short some = read_back level kinds.Loc
     schema = optional_payload_fields 2 local.schema
 
     payload_part : Piece (level - 1) kinds.LocalRelation 1 payload
-    payload_part = bytes_piece (level - 1) kinds.LocalRelation 1 local.payload is_1 refl (short_two payload schema short).0
+    payload_part = optional_bytes_piece (level - 1) kinds.LocalRelation 1 local.payload is_1 refl (short_two payload schema short).0
 
     schema_part : Piece (level - 1) kinds.LocalRelation 2 schema
     schema_part = optional_text_piece (level - 1) kinds.LocalRelation 2 local.schema is_2 refl bits (short_two payload schema short).1
@@ -151,7 +120,7 @@ local_relation_read_back level local bits short some = read_back level kinds.Loc
     same : local_relation_of (payload ++ schema) ≡ local
     same = same_local
         (payload_reads.payload_is ∙ optional_payload_back 1 local.payload)
-        (ap (option_map utf8_lossy) schema_reads.payload_is ∙ optional_text_back 2 local.schema bits)
+        (optional_text_read 2 (payload ++ schema) local.schema schema_reads bits)
 
 -- ---- reads
 

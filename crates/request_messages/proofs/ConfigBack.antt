@@ -27,9 +27,10 @@ use Rattle.request_messages.specs.Spelled.{context_fields}
 use Rattle.request_messages.specs.Configs.{operation_member, operation_in, config_of, operation_of_member, operation_fields, config_fields, HasOperationBits, HasConfigBits}
 use Rattle.request_messages.specs.Depths.{pairs_operation_depth, operation_depth, config_depth}
 use Rattle.field_groups.specs.Groups.{ReadsAs}
-use Rattle.field_groups.proofs.Among.{latest_none, latest_one}
+use Rattle.field_groups.proofs.Members.{latest_none, latest_behind}
 use Rattle.field_groups.proofs.Groups.{ThreeRead, three_read, ThreeShort, three_short}
-use Rattle.request_messages.proofs.FieldsBack.{is_1, is_2, is_3, is_4, is_5, is_6, text_read, context_piece, context_read, no_payloads}
+use Rattle.field_groups.proofs.Scalars.{is_1, is_2, is_3, is_4, is_5, is_6, text_read, no_payloads}
+use Rattle.request_messages.proofs.FieldsBack.{context_piece, context_read}
 
 -- ---- what a member holds
 
@@ -118,7 +119,7 @@ operation_found levels number kind member is whole reads =
     let found : message_at 3 whole ≡ field =
     message_at-one 3 whole (spell field) (reads.payloads_are ∙ payloads_one 3 (spell field)) ∙ (spelled_message field (member_piece levels number kind member is).stands.writable).1 in
     ap (λ (fields : List Field). operation_by (latest kinds.ConfigOperation fields)) found
-    ∙ ap operation_by (latest_one kinds.ConfigOperation number [] (spell member) tt is.is_member)
+    ∙ ap operation_by (latest_behind kinds.ConfigOperation number [] (spell member) tt is.is_member)
 
 member_found : (number : ℕ) (member : List Field) → message_at number (payload_fields number (spell member)) ≡ fields_of (spell member)
 member_found number member = message_at-one number (payload_fields number (spell member)) (spell member) (payloads_one number (spell member))

@@ -1,8 +1,6 @@
--- What fields are spelled as is read as they are, among fields of other numbers: texts and numbers, a request's user and its options.
-use Rattle.std.proofs.Common.{◌≡◌, ℕ, ℤ, pos, ◌-◌, ◌^◌, ◌<◌, ◌≤◌, Bool, true, false, List, [], ◌∷◌, length, Option, None, Some, refl, ap, ◌∙◌, arith}
-use Rattle.std.specs.Prelude.{IfSome, FitsSigned, IsUtf8, option_map, unwrap_or}
-use Rattle.std.specs.Int.{w32}
-use Rattle.std.specs.Str.Lossy.{utf8_lossy}
+-- What a request's user and its options are spelled as is read as they are, among fields of other numbers.
+use Rattle.std.proofs.Common.{◌≡◌, ℕ, ◌-◌, ◌^◌, ◌<◌, ◌≤◌, Bool, true, false, List, [], ◌∷◌, length, Option, None, Some, refl, ap, ◌∙◌, arith}
+use Rattle.std.specs.Prelude.{option_map, unwrap_or}
 use Rattle.std.proofs.lemmas.List.{append-nil}
 use Rattle.proto_wire.specs.Varint.{groups_of, varint}
 use Rattle.proto_fields.specs.declared.kind.MessageKind.{MessageKind}
@@ -10,12 +8,12 @@ use Rattle.proto_fields.specs.declared.kind.MessageKind.TheVariants as kinds
 use Rattle.proto_fields.specs.declared.kind.PayloadKind.TheVariants.{Message}
 use Rattle.proto_fields.specs.Fields.{Field, fields_of}
 use Rattle.proto_fields.specs.Kinds.{payload_of}
-use Rattle.proto_fields.specs.Readings.{last_some, int32_of, bool_field, int32_field, text_field, optional_text, payloads, joined, merged}
-use Rattle.proto_fields.specs.Spelling.{spell, payload_fields, int_fields, bool_fields, text_fields, optional_payload_fields}
-use Rattle.proto_fields.proofs.ReturnLemmas.{text_back, optional_text_back, int32_back, bool_back, message_back}
+use Rattle.proto_fields.specs.Readings.{last_some, bool_field, payloads, joined, merged}
+use Rattle.proto_fields.specs.Spelling.{spell, bool_fields}
+use Rattle.proto_fields.proofs.ReturnLemmas.{text_back, bool_back, message_back}
 use Rattle.proto_fields.proofs.SpellLemmas.{spelled_message}
 use Rattle.expression_messages.specs.Laws.{IsShort, IsReadBack}
-use Rattle.expression_messages.proofs.Pieces.{nothing_stands, stands_sound, read_back, short_payload, IsNumber, is_numbered, Piece, payload_piece, text_piece, bool_piece, payloads_one}
+use Rattle.expression_messages.proofs.Pieces.{nothing_stands, stands_sound, read_back, short_payload, Piece, payload_piece, text_piece, bool_piece, payloads_one}
 use Rattle.request_messages.specs.declared.user_context.UserContext.{UserContext}
 use Rattle.request_messages.specs.Requests.{user_context_of, context_of, option_flag, reattachable_of}
 use Rattle.request_messages.specs.Spelled.{user_context_fields, context_fields, option_fields, reattachable_fields}
@@ -23,41 +21,7 @@ use Rattle.request_messages.specs.Depths.{context_depth, reattachable_depth}
 use Rattle.request_messages.specs.Bits.{HasUserContextBits, HasContextBits}
 use Rattle.field_groups.specs.Groups.{ReadsAs}
 use Rattle.field_groups.proofs.Among.{alone}
-
-pub is_1 : IsNumber 1
-is_1 = is_numbered 1 (omega arith) (omega arith)
-
-pub is_2 : IsNumber 2
-is_2 = is_numbered 2 (omega arith) (omega arith)
-
-pub is_3 : IsNumber 3
-is_3 = is_numbered 3 (omega arith) (omega arith)
-
-pub is_4 : IsNumber 4
-is_4 = is_numbered 4 (omega arith) (omega arith)
-
-pub is_5 : IsNumber 5
-is_5 = is_numbered 5 (omega arith) (omega arith)
-
-pub is_6 : IsNumber 6
-is_6 = is_numbered 6 (omega arith) (omega arith)
-
--- ---- texts and numbers
-
-pub text_read : (number : ℕ) (whole : List Field) (text : List ℕ) → ReadsAs number whole (text_fields number text) → IsUtf8 text → text_field number whole ≡ text
-text_read number whole text reads utf8 = ap (λ (p : Option (List ℕ)). unwrap_or (option_map utf8_lossy p) []) reads.payload_is ∙ text_back number text utf8
-
--- a text that is written empty too
-pub payload_read : (number : ℕ) (whole : List Field) (text : List ℕ) → ReadsAs number whole (payload_fields number text) → IsUtf8 text → text_field number whole ≡ text
-payload_read number whole text reads utf8 =
-    ap (λ (p : Option (List ℕ)). unwrap_or (option_map utf8_lossy p) []) reads.payload_is
-    ∙ ap (λ (t : Option (List ℕ)). unwrap_or t []) (optional_text_back number (Some text) utf8)
-
-pub optional_text_read : (number : ℕ) (whole : List Field) (text : Option (List ℕ)) → ReadsAs number whole (optional_payload_fields number text) → IfSome text IsUtf8 → optional_text number whole ≡ text
-optional_text_read number whole text reads utf8 = ap (option_map utf8_lossy) reads.payload_is ∙ optional_text_back number text utf8
-
-pub int32_read : (number : ℕ) (whole : List Field) (value : ℤ) → ReadsAs number whole (int_fields number value) → FitsSigned w32 value → int32_field number whole ≡ value
-int32_read number whole value reads fits = ap (λ (n : Option ℕ). unwrap_or (option_map int32_of n) (pos 0)) reads.number_is ∙ int32_back number value fits
+use Rattle.field_groups.proofs.Scalars.{is_1, is_2, is_5, no_payloads}
 
 -- ---- the user of a request
 
@@ -78,10 +42,6 @@ context_piece levels kind (Some context) is bits short deep =
     let payload = spell (user_context_fields context) in
     let few = short_payload 2 payload short in
     payload_piece levels kind 2 (Message kinds.UserContext) payload is_2 is (user_context_back levels context bits few deep).sound few
-
-pub no_payloads : (number : ℕ) → payloads number [] ≡ []
-unfolding payloads
-no_payloads number = refl
 
 context_by : (payloads : List (List ℕ)) → Option UserContext
 context_by payloads = option_map user_context_of (joined payloads)

@@ -1,13 +1,12 @@
 -- What requests are spelled as is read as the requests.
-use Rattle.std.proofs.Common.{◌≡◌, ℕ, ℤ, ◌-◌, ◌<◌, ◌≤◌, false, List, [], ◌++◌, Option, refl, ap, ◌∙◌, arith}
+use Rattle.std.proofs.Common.{◌≡◌, ℕ, ℤ, ◌-◌, ◌<◌, ◌≤◌, List, [], ◌++◌, Option, refl, ap, ◌∙◌, arith}
 use Rattle.std.specs.Prelude.{IsUtf8, option_map, unwrap_or}
 use Rattle.proto_fields.specs.declared.kind.MessageKind.TheVariants as kinds
 use Rattle.proto_fields.specs.declared.kind.PayloadKind.TheVariants.{Message, Text}
 use Rattle.proto_fields.specs.Fields.{Field}
-use Rattle.proto_fields.specs.Kinds.{is_member, payload_of}
+use Rattle.proto_fields.specs.Kinds.{payload_of}
 use Rattle.proto_fields.specs.Readings.{text_field, Member}
 use Rattle.proto_fields.specs.Spelling.{spell, payload_fields, int_fields, text_fields, optional_payload_fields}
-use Rattle.proto_fields.proofs.PieceLemmas.{AllByRecursion-append}
 use Rattle.proto_fields.proofs.ReturnLemmas.{text_back}
 use Rattle.expression_messages.specs.Laws.{IsShort, IsReadBack}
 use Rattle.expression_messages.proofs.Pieces.{Stands, nothing_stands, read_back, short_payload, Piece, payload_piece, text_piece, optional_text_piece, int_piece, wider, payloads_one, message_at-one}
@@ -24,9 +23,11 @@ use Rattle.request_messages.specs.Requests.{reattach_of, release_member, release
 use Rattle.request_messages.specs.Spelled.{context_fields, reattach_fields, release_member_fields, release_fields, target_fields, interrupt_fields}
 use Rattle.request_messages.specs.Depths.{reattach_depth, release_member_depth, release_depth, interrupt_depth}
 use Rattle.request_messages.specs.Bits.{HasReattachBits, HasReleaseMemberBits, HasReleaseBits, HasTargetBits, HasInterruptBits}
-use Rattle.field_groups.proofs.Among.{behind, latest_none, latest_one}
+use Rattle.field_groups.proofs.Among.{behind}
+use Rattle.field_groups.proofs.Members.{two_no_members, latest_none, latest_behind}
 use Rattle.field_groups.proofs.Groups.{FourRead, four_read, FourShort, four_short, four_stand, MemberBack, member_read}
-use Rattle.request_messages.proofs.FieldsBack.{is_1, is_3, is_4, is_5, is_6, text_read, payload_read, optional_text_read, int32_read, context_piece, context_read}
+use Rattle.field_groups.proofs.Scalars.{is_1, is_3, is_4, is_5, is_6, text_read, payload_read, optional_text_read, int32_read}
+use Rattle.request_messages.proofs.FieldsBack.{context_piece, context_read}
 
 -- ---- reattaching
 
@@ -102,7 +103,7 @@ release_member_back levels release.All bits short deep = record {
   number = 5;
   above = omega arith;
   piece = payload_piece levels kinds.ReleaseExecuteRequest 5 (Message kinds.Empty) [] is_5 refl (empty_sound levels (omega arith)) (omega arith);
-  same = λ front apart others. ap release_by (latest_one kinds.ReleaseExecuteRequest 5 front [] apart refl);
+  same = λ front apart others. ap release_by (latest_behind kinds.ReleaseExecuteRequest 5 front [] apart refl);
 }
 release_member_back levels (release.Until response_id) bits short deep =
     let payload = spell (text_fields 1 response_id) in
@@ -113,7 +114,7 @@ release_member_back levels (release.Until response_id) bits short deep =
       above = omega arith;
       piece = payload_piece levels kinds.ReleaseExecuteRequest 6 (Message kinds.ReleaseUntil) payload is_6 refl back.sound few;
       same = λ front apart others.
-          ap release_by (latest_one kinds.ReleaseExecuteRequest 6 front payload apart refl)
+          ap release_by (latest_behind kinds.ReleaseExecuteRequest 6 front payload apart refl)
           ∙ ap (λ (fields : List Field). release.Until (text_field 1 fields))
           (message_at-one 6 (front ++ payload_fields 6 payload) payload ((behind 6 front (payload_fields 6 payload) others).payloads_are ∙ payloads_one 6 payload))
           ∙ ap (λ (id : List ℕ). release.Until id) back.same;
@@ -122,7 +123,7 @@ release_member_back levels release.Absent bits short deep = record {
   number = 5;
   above = omega arith;
   piece = record { stands = nothing_stands levels kinds.ReleaseExecuteRequest; numbered = tt };
-  same = λ front apart others. ap release_by (latest_none kinds.ReleaseExecuteRequest (front ++ []) (AllByRecursion-append (λ field. is_member kinds.ReleaseExecuteRequest field.number field.content ≡ false) front [] apart tt));
+  same = λ front apart others. ap release_by (latest_none kinds.ReleaseExecuteRequest (front ++ []) (two_no_members kinds.ReleaseExecuteRequest front [] apart tt));
 }
 
 same_release : {session session2 operation operation2 : List ℕ} {context context2 : Option UserContext} {it it2 : Release} →
@@ -193,7 +194,7 @@ target_back levels (target.OperationTag tag) bits short = record {
   above = omega arith;
   piece = payload_piece levels kinds.InterruptRequest 5 Text tag is_5 refl bits (short_payload 5 tag short);
   same = λ front apart others.
-      ap target_by (latest_one kinds.InterruptRequest 5 front tag apart refl)
+      ap target_by (latest_behind kinds.InterruptRequest 5 front tag apart refl)
       ∙ ap (λ (t : List ℕ). target.OperationTag t) (payload_read 5 (front ++ payload_fields 5 tag) tag (behind 5 front (payload_fields 5 tag) others) bits);
 }
 target_back levels (target.OperationId id) bits short = record {
@@ -201,14 +202,14 @@ target_back levels (target.OperationId id) bits short = record {
   above = omega arith;
   piece = payload_piece levels kinds.InterruptRequest 6 Text id is_6 refl bits (short_payload 6 id short);
   same = λ front apart others.
-      ap target_by (latest_one kinds.InterruptRequest 6 front id apart refl)
+      ap target_by (latest_behind kinds.InterruptRequest 6 front id apart refl)
       ∙ ap (λ (t : List ℕ). target.OperationId t) (payload_read 6 (front ++ payload_fields 6 id) id (behind 6 front (payload_fields 6 id) others) bits);
 }
 target_back levels target.Absent bits short = record {
   number = 5;
   above = omega arith;
   piece = record { stands = nothing_stands levels kinds.InterruptRequest; numbered = tt };
-  same = λ front apart others. ap target_by (latest_none kinds.InterruptRequest (front ++ []) (AllByRecursion-append (λ field. is_member kinds.InterruptRequest field.number field.content ≡ false) front [] apart tt));
+  same = λ front apart others. ap target_by (latest_none kinds.InterruptRequest (front ++ []) (two_no_members kinds.InterruptRequest front [] apart tt));
 }
 
 same_interrupt : {session session2 : List ℕ} {context context2 : Option UserContext} {kind kind2 : ℤ} {it it2 : InterruptTarget} →

@@ -2,7 +2,6 @@
 use Rattle.std.proofs.Common.{◌≡◌, ◌≢◌, ℕ, ◌+◌, ◌-◌, ◌≤◌, Bool, true, List, [], ◌∷◌, ◌++◌, map, Option, Some, refl, ap, ◌∙◌, arith}
 use Rattle.std.specs.Prelude.{IsUtf8, option_map, unwrap_or}
 use Rattle.std.specs.List.{AllByRecursion}
-use Rattle.std.specs.Str.Lossy.{utf8_lossy}
 use Rattle.proto_fields.specs.declared.kind.MessageKind.TheVariants as kinds
 use Rattle.proto_fields.specs.declared.kind.PayloadKind.TheVariants.{Message}
 use Rattle.proto_fields.specs.Fields.{Field, fields_of}
@@ -10,13 +9,13 @@ use Rattle.proto_fields.specs.Kinds.{payload_of}
 use Rattle.proto_fields.specs.Readings.{bool_field, text_field, texts, optional_text, Member, latest}
 use Rattle.proto_fields.specs.Spelling.{spell, payload_fields, bool_fields, text_fields, optional_payload_fields}
 use Rattle.proto_fields.proofs.SpellLemmas.{spelled_message}
-use Rattle.proto_fields.proofs.ReturnLemmas.{bool_back, text_back, optional_text_back}
+use Rattle.proto_fields.proofs.ReturnLemmas.{bool_back, text_back}
 use Rattle.expression_messages.specs.declared.data_type.TypeMessage.{TypeMessage}
 use Rattle.expression_messages.specs.Messages.{message_at, messages_at, repeated_fields, messages_fields}
 use Rattle.expression_messages.specs.Types.{type_at}
 use Rattle.expression_messages.specs.Spelled.{type_fields}
 use Rattle.expression_messages.specs.Laws.{IsShort, IsReadBack}
-use Rattle.expression_messages.proofs.Pieces.{HaveNumber, Stands, nothing_stands, two_stand, stands_sound, read_back, short_two, short_payload, short_repeated, short_messages, IsNumber, is_numbered, Piece, payload_piece, text_piece, optional_text_piece, texts_piece, bool_piece, payloads_one, message_at-one, payloads_repeated, texts_back, ItemBack, messages_piece, messages_read}
+use Rattle.expression_messages.proofs.Pieces.{HaveNumber, Stands, nothing_stands, two_stand, stands_sound, read_back, short_two, short_payload, short_repeated, short_messages, is_numbered, Piece, payload_piece, text_piece, optional_text_piece, texts_piece, bool_piece, payloads_one, message_at-one, payloads_repeated, ItemBack, messages_piece, messages_read}
 use Rattle.expression_messages.proofs.TypeBack.{type_read_back}
 use Rattle.response_messages.specs.declared.key_value.KeyValue.{KeyValue}
 use Rattle.response_messages.specs.declared.answers.AnalyzeResult.{AnalyzeResult}
@@ -30,33 +29,30 @@ use Rattle.response_messages.specs.Responses.{analyze_member, result_of, analyze
 use Rattle.response_messages.specs.Spelled.{result_fields, analyze_fields, config_fields, interrupt_fields, release_fields}
 use Rattle.response_messages.specs.Depths.{result_depth, pairs_depth}
 use Rattle.response_messages.specs.Known.{is_known_result, HasResultBits, HasAnalyzeBits, HasConfigBits, HasInterruptBits, HasReleaseBits}
-use Rattle.response_messages.proofs.Members.{Lack, lacks, payload_before, payload_behind, payloads_behind, sets_none, both_set_none, sets_one, one_behind, latest_one, latest_none}
+use Rattle.field_groups.specs.Groups.{AreOthers}
+use Rattle.field_groups.proofs.Among.{are_others, alone, before_others, behind, payloads_behind}
+use Rattle.field_groups.proofs.Members.{no_members, two_no_members, sets_one, one_behind, latest_one, latest_none}
+use Rattle.field_groups.proofs.Scalars.{is_1, is_2, text_read, optional_text_read, texts_read}
 use Rattle.response_messages.proofs.PairBack.{key_value_read_back}
 
-is_1 : IsNumber 1
-is_1 = is_numbered 1 (omega arith) (omega arith)
-
-is_2 : IsNumber 2
-is_2 = is_numbered 2 (omega arith) (omega arith)
-
 -- the session's id, before fields of other numbers
-session_back : (session : List ℕ) (rest : List Field) → IsUtf8 session → Lack 1 rest → text_field 1 (text_fields 1 session ++ rest) ≡ session
+session_back : (session : List ℕ) (rest : List Field) → IsUtf8 session → AreOthers 1 rest → text_field 1 (text_fields 1 session ++ rest) ≡ session
 session_back session rest utf8 others =
-    ap (λ (p : Option (List ℕ)). unwrap_or (option_map utf8_lossy p) []) (payload_before 1 (text_fields 1 session) rest others) ∙ text_back 1 session utf8
+    text_read 1 (text_fields 1 session ++ rest) session (before_others 1 (text_fields 1 session) (text_fields 1 session) rest (alone 1 (text_fields 1 session)) others) utf8
 
 -- ---- the result of an analysis
 
 -- it stands, and is read behind the session's id
 record ResultBack (levels : ℕ) (it : AnalyzeResult) : Type 0 where
   stands : Stands levels kinds.AnalyzePlanResponse (result_fields it)
-  lack : Lack 1 (result_fields it)
+  others : AreOthers 1 (result_fields it)
   same : (front : List Field) → HaveNumber 1 front → result_of (type_at (levels - 1)) (front ++ result_fields it) ≡ it
 
 -- the message of a member is read behind the session's id
 member_read : (number : ℕ) (front inner : List Field) (payload : List ℕ) → HaveNumber 1 front → 1 ≢ number →
     fields_of payload ≡ inner → message_at number (front ++ payload_fields number payload) ≡ inner
 member_read number front inner payload numbered other is =
-    message_at-one number (front ++ payload_fields number payload) payload (payloads_behind number front (payload_fields number payload) (lacks number 1 front numbered other) ∙ payloads_one number payload) ∙ is
+    message_at-one number (front ++ payload_fields number payload) payload (payloads_behind number front (payload_fields number payload) (are_others number 1 front numbered other) ∙ payloads_one number payload) ∙ is
 
 result_by : (types : List Field → TypeMessage) (fields : List Field) (member : Member) → latest kinds.AnalyzePlanResponse fields ≡ Some member → result_of types fields ≡ analyze_member types member
 result_by types fields member is = ap (λ (m : Option Member). unwrap_or (option_map (analyze_member types) m) said.Absent) is
@@ -75,10 +71,10 @@ result_back levels (said.Schema kind) known bits short deep =
     let outer = payload_piece levels kinds.AnalyzePlanResponse 2 (Message kinds.SchemaAnswer) (spell inner) is_2 refl sound short_inner in
     record {
       stands = outer.stands;
-      lack = lacks 1 2 (payload_fields 2 (spell inner)) outer.numbered (omega arith);
+      others = are_others 1 2 (payload_fields 2 (spell inner)) outer.numbered (omega arith);
       same = λ front numbered.
           let whole = front ++ payload_fields 2 (spell inner) in
-          let found = latest_one kinds.AnalyzePlanResponse 2 whole (one_behind kinds.AnalyzePlanResponse 2 front (payload_fields 2 (spell inner)) (sets_none kinds.AnalyzePlanResponse 1 front numbered refl refl) (sets_one kinds.AnalyzePlanResponse 2 (spell inner) refl)) in
+          let found = latest_one kinds.AnalyzePlanResponse 2 whole (one_behind kinds.AnalyzePlanResponse 2 front (payload_fields 2 (spell inner)) (no_members kinds.AnalyzePlanResponse 1 front (record { payload = refl; varint = refl }) numbered) (sets_one kinds.AnalyzePlanResponse 2 (spell inner) refl)) in
           result_by types whole (record { number = 2; since = whole }) found
           ∙ ap (λ (fields : List Field). said.Schema (types (message_at 1 fields))) (member_read 2 front inner (spell inner) numbered (omega arith) ((spelled_message inner piece.stands.writable).1))
           ∙ ap (λ (fields : List Field). said.Schema (types fields)) (message_at-one 1 inner payload (payloads_one 1 payload))
@@ -92,10 +88,10 @@ result_back levels (said.IsStreaming value) known bits short deep =
     let outer = payload_piece levels kinds.AnalyzePlanResponse 6 (Message kinds.IsStreamingAnswer) (spell inner) (is_numbered 6 (omega arith) (omega arith)) refl sound (short_payload 6 (spell inner) short) in
     record {
       stands = outer.stands;
-      lack = lacks 1 6 (payload_fields 6 (spell inner)) outer.numbered (omega arith);
+      others = are_others 1 6 (payload_fields 6 (spell inner)) outer.numbered (omega arith);
       same = λ front numbered.
           let whole = front ++ payload_fields 6 (spell inner) in
-          let found = latest_one kinds.AnalyzePlanResponse 6 whole (one_behind kinds.AnalyzePlanResponse 6 front (payload_fields 6 (spell inner)) (sets_none kinds.AnalyzePlanResponse 1 front numbered refl refl) (sets_one kinds.AnalyzePlanResponse 6 (spell inner) refl)) in
+          let found = latest_one kinds.AnalyzePlanResponse 6 whole (one_behind kinds.AnalyzePlanResponse 6 front (payload_fields 6 (spell inner)) (no_members kinds.AnalyzePlanResponse 1 front (record { payload = refl; varint = refl }) numbered) (sets_one kinds.AnalyzePlanResponse 6 (spell inner) refl)) in
           result_by types whole (record { number = 6; since = whole }) found
           ∙ ap (λ (fields : List Field). said.IsStreaming (bool_field 1 fields)) (member_read 6 front inner (spell inner) numbered (omega arith) ((spelled_message inner piece.stands.writable).1))
           ∙ ap (λ (b : Bool). said.IsStreaming b) (bool_back 1 value);
@@ -109,19 +105,19 @@ result_back levels (said.SparkVersion version) known bits short deep =
     let outer = payload_piece levels kinds.AnalyzePlanResponse 8 (Message kinds.SparkVersionAnswer) (spell inner) (is_numbered 8 (omega arith) (omega arith)) refl sound short_inner in
     record {
       stands = outer.stands;
-      lack = lacks 1 8 (payload_fields 8 (spell inner)) outer.numbered (omega arith);
+      others = are_others 1 8 (payload_fields 8 (spell inner)) outer.numbered (omega arith);
       same = λ front numbered.
           let whole = front ++ payload_fields 8 (spell inner) in
-          let found = latest_one kinds.AnalyzePlanResponse 8 whole (one_behind kinds.AnalyzePlanResponse 8 front (payload_fields 8 (spell inner)) (sets_none kinds.AnalyzePlanResponse 1 front numbered refl refl) (sets_one kinds.AnalyzePlanResponse 8 (spell inner) refl)) in
+          let found = latest_one kinds.AnalyzePlanResponse 8 whole (one_behind kinds.AnalyzePlanResponse 8 front (payload_fields 8 (spell inner)) (no_members kinds.AnalyzePlanResponse 1 front (record { payload = refl; varint = refl }) numbered) (sets_one kinds.AnalyzePlanResponse 8 (spell inner) refl)) in
           result_by types whole (record { number = 8; since = whole }) found
           ∙ ap (λ (fields : List Field). said.SparkVersion (text_field 1 fields)) (member_read 8 front inner (spell inner) numbered (omega arith) ((spelled_message inner piece.stands.writable).1))
           ∙ ap (λ (t : List ℕ). said.SparkVersion t) (text_back 1 version bits);
     }
 result_back levels said.Absent known bits short deep = record {
   stands = nothing_stands levels kinds.AnalyzePlanResponse;
-  lack = tt;
+  others = tt;
   same = λ front numbered.
-      let none = both_set_none kinds.AnalyzePlanResponse front [] (sets_none kinds.AnalyzePlanResponse 1 front numbered refl refl) tt in
+      let none = two_no_members kinds.AnalyzePlanResponse front [] (no_members kinds.AnalyzePlanResponse 1 front (record { payload = refl; varint = refl }) numbered) tt in
       ap (λ (m : Option Member). unwrap_or (option_map (analyze_member (type_at (levels - 1))) m) said.Absent) (latest_none kinds.AnalyzePlanResponse (front ++ []) none);
 }
 
@@ -158,7 +154,7 @@ analyze_back level response known bits short deep = read_back level kinds.Analyz
     result_read = ap (λ (n : ℕ). result_of (type_at n) (session ++ rest)) level_is ∙ back.same session session_piece.numbered
 
     same : analyze_at level (session ++ rest) ≡ response
-    same = same_analyze (session_back response.session_id rest bits.session_id back.lack) result_read
+    same = same_analyze (session_back response.session_id rest bits.session_id back.others) result_read
 
 -- pairs
 
@@ -204,11 +200,11 @@ config_back level response bits short deep = read_back level kinds.ConfigRespons
     pairs_read : messages_at key_value_of 2 (session ++ rest) ≡ response.pairs
     pairs_read =
         ap (map (λ payload. key_value_of (fields_of payload)))
-        (payloads_behind 2 session rest (lacks 2 1 session session_piece.numbered (omega arith)) ∙ payloads_repeated 2 (map (λ pair. spell (key_value_fields pair)) response.pairs))
+        (payloads_behind 2 session rest (are_others 2 1 session session_piece.numbered (omega arith)) ∙ payloads_repeated 2 (map (λ pair. spell (key_value_fields pair)) response.pairs))
         ∙ messages_read (level - 1) kinds.KeyValue key_value_fields key_value_of response.pairs items
 
     same : config_of (session ++ rest) ≡ response
-    same = same_config (session_back response.session_id rest bits.session_id (lacks 1 2 rest piece.numbered (omega arith))) pairs_read
+    same = same_config (session_back response.session_id rest bits.session_id (are_others 1 2 rest piece.numbered (omega arith))) pairs_read
 
 -- interrupted operations
 
@@ -238,11 +234,10 @@ interrupt_back level response bits short deep = read_back level kinds.InterruptR
 
     ids_read : texts 2 (session ++ rest) ≡ response.interrupted_ids
     ids_read =
-        ap (map utf8_lossy) (payloads_behind 2 session rest (lacks 2 1 session session_piece.numbered (omega arith)) ∙ payloads_repeated 2 response.interrupted_ids)
-        ∙ texts_back response.interrupted_ids bits.interrupted_ids
+        texts_read 2 (session ++ rest) response.interrupted_ids (behind 2 session rest (are_others 2 1 session session_piece.numbered (omega arith))) bits.interrupted_ids
 
     same : interrupt_of (session ++ rest) ≡ response
-    same = same_interrupt (session_back response.session_id rest bits.session_id (lacks 1 2 rest piece.numbered (omega arith))) ids_read
+    same = same_interrupt (session_back response.session_id rest bits.session_id (are_others 1 2 rest piece.numbered (omega arith))) ids_read
 
 -- a released operation
 
@@ -272,7 +267,7 @@ release_back level response bits short deep = read_back level kinds.ReleaseExecu
 
     operation_read : optional_text 2 (session ++ rest) ≡ response.operation_id
     operation_read =
-        ap (option_map utf8_lossy) (payload_behind 2 session rest (lacks 2 1 session session_piece.numbered (omega arith))) ∙ optional_text_back 2 response.operation_id bits.operation_id
+        optional_text_read 2 (session ++ rest) response.operation_id (behind 2 session rest (are_others 2 1 session session_piece.numbered (omega arith))) bits.operation_id
 
     same : release_of (session ++ rest) ≡ response
-    same = same_release (session_back response.session_id rest bits.session_id (lacks 1 2 rest piece.numbered (omega arith))) operation_read
+    same = same_release (session_back response.session_id rest bits.session_id (are_others 1 2 rest piece.numbered (omega arith))) operation_read

@@ -6,18 +6,18 @@ use Rattle.std.specs.Str.Lossy.{utf8_lossy}
 use Rattle.std.proofs.lemmas.List.{append-nil}
 use Rattle.proto_fields.specs.declared.kind.MessageKind.{MessageKind}
 use Rattle.proto_fields.specs.declared.kind.MessageKind.TheVariants as kinds
-use Rattle.proto_fields.specs.declared.kind.PayloadKind.TheVariants.{Message, Other}
+use Rattle.proto_fields.specs.declared.kind.PayloadKind.TheVariants.{Message}
 use Rattle.proto_fields.specs.Fields.{Field, fields_of}
 use Rattle.proto_fields.specs.Kinds.{payload_of}
-use Rattle.proto_fields.specs.Readings.{last_some, last_payload, payloads, joined, int64_of, text_field, Member}
+use Rattle.proto_fields.specs.Readings.{payloads, joined, int64_of, text_field, Member}
 use Rattle.proto_fields.specs.Spelling.{spell, int_fields, payload_fields, text_fields}
-use Rattle.proto_fields.proofs.ReturnLemmas.{int64_back, text_back, optional_payload_back}
+use Rattle.proto_fields.proofs.ReturnLemmas.{int64_back, text_back}
 use Rattle.expression_messages.specs.declared.data_type.TypeMessage.{TypeMessage}
 use Rattle.expression_messages.specs.Types.{type_at}
 use Rattle.expression_messages.specs.Spelled.{type_fields}
 use Rattle.expression_messages.specs.Known.{HasTypeBits}
 use Rattle.expression_messages.specs.Laws.{IsShort, IsReadBack}
-use Rattle.expression_messages.proofs.Pieces.{HaveNumber, Stands, nothing_stands, two_stand, read_back, short_two, short_payload, short_text, IsNumber, is_numbered, Piece, payload_piece, text_piece, int_piece, number_front, payloads_one, message_at-one}
+use Rattle.expression_messages.proofs.Pieces.{HaveNumber, Stands, nothing_stands, two_stand, read_back, short_two, short_payload, is_numbered, Piece, payload_piece, text_piece, int_piece, number_front, payloads_one, message_at-one}
 use Rattle.expression_messages.proofs.TypeBack.{empty_sound, type_read_back}
 use Rattle.response_messages.specs.declared.execute.ArrowBatch.{ArrowBatch}
 use Rattle.response_messages.specs.declared.execute.ResponseType.{ResponseType}
@@ -27,20 +27,12 @@ use Rattle.response_messages.specs.Responses.{arrow_batch_of, execute_member, re
 use Rattle.response_messages.specs.Spelled.{arrow_batch_fields, batch_fields, complete_fields, schema_fields, execute_fields}
 use Rattle.response_messages.specs.Depths.{response_type_depth, schema_depth, execute_depth}
 use Rattle.response_messages.specs.Known.{is_known_schema, HasResponseTypeBits, HasExecuteBits}
-use Rattle.response_messages.proofs.Members.{Lack, lacks, both_lack, payload_before, payload_behind, payloads_before, payloads_behind, SetNone, sets_none, both_set_none, sets_one, one_before, one_behind, latest_one, latest_none}
+use Rattle.field_groups.specs.Groups.{AreOthers}
+use Rattle.field_groups.proofs.Among.{are_others, two_others, payload_before, payload_behind, payloads_before, payloads_behind}
+use Rattle.field_groups.proofs.Members.{AreNoMembers, no_members, two_no_members, sets_one, one_before, one_behind, latest_one, latest_none}
+use Rattle.field_groups.proofs.Scalars.{is_1, is_2, bytes_piece, bytes_back, is_7}
 
 -- ---- a batch
-
--- plain bytes, as a piece and as they are read
-bytes_piece : (levels : ℕ) (kind : MessageKind) (number : ℕ) (bytes : List ℕ) → IsNumber number → payload_of kind number ≡ Other → IsShort (text_fields number bytes) →
-    Piece levels kind number (text_fields number bytes)
-bytes_piece levels kind number [] is_number is short = record { stands = nothing_stands levels kind; numbered = tt }
-bytes_piece levels kind number (b ∷ bytes) is_number is short = payload_piece levels kind number Other (b ∷ bytes) is_number is tt (short_text number (b ∷ bytes) short)
-
-bytes_back : (number : ℕ) (bytes : List ℕ) → unwrap_or (last_payload number (text_fields number bytes)) [] ≡ bytes
-unfolding last_some
-bytes_back number [] = refl
-bytes_back number (b ∷ bytes) = ap (λ (p : Option (List ℕ)). unwrap_or p []) (optional_payload_back number (Some (b ∷ bytes)))
 
 same_batch : {count count2 : ℤ} {bytes bytes2 : List ℕ} → count ≡ count2 → bytes ≡ bytes2 →
     ◌≡◌ {A = ArrowBatch} (record { row_count = count; payload = bytes }) (record { row_count = count2; payload = bytes2 })
@@ -58,10 +50,10 @@ arrow_batch_back level batch some fits short = read_back level kinds.ArrowBatch 
     bytes = text_fields 2 batch.payload
 
     count_piece : Piece (level - 1) kinds.ArrowBatch 1 count
-    count_piece = int_piece (level - 1) kinds.ArrowBatch 1 batch.row_count (is_numbered 1 (omega arith) (omega arith)) fits
+    count_piece = int_piece (level - 1) kinds.ArrowBatch 1 batch.row_count is_1 fits
 
     piece : Piece (level - 1) kinds.ArrowBatch 2 bytes
-    piece = bytes_piece (level - 1) kinds.ArrowBatch 2 batch.payload (is_numbered 2 (omega arith) (omega arith)) refl (short_two count bytes short).1
+    piece = bytes_piece (level - 1) kinds.ArrowBatch 2 batch.payload is_2 refl (short_two count bytes short).1
 
     stands : Stands (level - 1) kinds.ArrowBatch (count ++ bytes)
     stands = two_stand (level - 1) kinds.ArrowBatch count bytes count_piece.stands piece.stands
@@ -69,7 +61,7 @@ arrow_batch_back level batch some fits short = read_back level kinds.ArrowBatch 
     same : arrow_batch_of (count ++ bytes) ≡ batch
     same = same_batch
         (ap (λ (n : Option ℕ). unwrap_or (option_map int64_of n) (pos 0)) (number_front 1 2 count bytes piece.numbered (omega arith)) ∙ int64_back 1 batch.row_count fits)
-        (ap (λ (p : Option (List ℕ)). unwrap_or p []) (payload_behind 2 count bytes (lacks 2 1 count count_piece.numbered (omega arith))) ∙ bytes_back 2 batch.payload)
+        (ap (λ (p : Option (List ℕ)). unwrap_or p []) (payload_behind 2 count bytes (are_others 2 1 count count_piece.numbered (omega arith))) ∙ bytes_back 2 batch.payload)
 
 -- ---- the member of the oneof, whose two members stand apart
 
@@ -91,7 +83,7 @@ batch_piece levels (part.ArrowBatch batch) bits short deep =
     let payload = spell (arrow_batch_fields batch) in
     let short_batch = short_payload 2 payload short in
     let back = arrow_batch_back levels batch (omega arith) bits short_batch in
-    payload_piece levels kinds.ExecutePlanResponse 2 (Message kinds.ArrowBatch) payload (is_numbered 2 (omega arith) (omega arith)) refl back.sound short_batch
+    payload_piece levels kinds.ExecutePlanResponse 2 (Message kinds.ArrowBatch) payload is_2 refl back.sound short_batch
 batch_piece levels part.ResultComplete bits short deep = record { stands = nothing_stands levels kinds.ExecutePlanResponse; numbered = tt }
 batch_piece levels part.Absent bits short deep = record { stands = nothing_stands levels kinds.ExecutePlanResponse; numbered = tt }
 
@@ -104,11 +96,11 @@ complete_piece levels part.Absent deep = record { stands = nothing_stands levels
 
 -- fields beside the members: they set none, and no one is a batch
 record Beside (fields : List Field) : Type 0 where
-  none : SetNone kinds.ExecutePlanResponse fields
-  lack : Lack 2 fields
+  none : AreNoMembers kinds.ExecutePlanResponse fields
+  others : AreOthers 2 fields
 
-beside : (number : ℕ) (fields : List Field) → HaveNumber number fields → number ≢ 2 → SetNone kinds.ExecutePlanResponse fields → Beside fields
-beside number fields numbered not_batch none = record { none = none; lack = lacks 2 number fields numbered not_batch }
+beside : (number : ℕ) (fields : List Field) → HaveNumber number fields → number ≢ 2 → AreNoMembers kinds.ExecutePlanResponse fields → Beside fields
+beside number fields numbered not_batch none = record { none = none; others = are_others 2 number fields numbered not_batch }
 
 part_back : (it : ResponseType) (a c d e : List Field) → Beside a → Beside c → Beside d → Beside e → BatchBack it →
     response_type_of (a ++ batch_fields it ++ c ++ d ++ e ++ complete_fields it) ≡ it
@@ -122,20 +114,20 @@ part_back (part.ArrowBatch batch) a c d e first third fourth fifth back =
     let whole = a ++ b ++ c ++ d ++ e ++ [] in
     let found = latest_one kind 2 whole (one_before kind 2 (a ++ b ++ c ++ d ++ e) [] five tt) in
     let one : payloads 2 whole ≡ payload ∷ [] =
-    payloads_before 2 (a ++ b ++ c ++ d ++ e) [] tt ∙ payloads_before 2 (a ++ b ++ c ++ d) e fifth.lack ∙ payloads_before 2 (a ++ b ++ c) d fourth.lack
-    ∙ payloads_before 2 (a ++ b) c third.lack ∙ payloads_behind 2 a b first.lack ∙ payloads_one 2 payload in
+    payloads_before 2 (a ++ b ++ c ++ d ++ e) [] tt ∙ payloads_before 2 (a ++ b ++ c ++ d) e fifth.others ∙ payloads_before 2 (a ++ b ++ c) d fourth.others
+    ∙ payloads_before 2 (a ++ b) c third.others ∙ payloads_behind 2 a b first.others ∙ payloads_one 2 payload in
     ap (λ (m : Option Member). unwrap_or (option_map execute_member m) part.Absent) found
     ∙ ap (λ (fields : List Field). part.ArrowBatch (arrow_batch_of fields)) (message_at-one 2 whole payload one)
     ∙ ap (λ (found : ArrowBatch). part.ArrowBatch found) back
 part_back part.ResultComplete a c d e first third fourth fifth back =
     let kind = kinds.ExecutePlanResponse in
-    let front = both_set_none kind (a ++ [] ++ c ++ d) e (both_set_none kind (a ++ [] ++ c) d (both_set_none kind (a ++ []) c (both_set_none kind a [] first.none tt) third.none) fourth.none) fifth.none in
+    let front = two_no_members kind (a ++ [] ++ c ++ d) e (two_no_members kind (a ++ [] ++ c) d (two_no_members kind (a ++ []) c (two_no_members kind a [] first.none tt) third.none) fourth.none) fifth.none in
     let found = latest_one kind 14 (a ++ [] ++ c ++ d ++ e ++ payload_fields 14 []) (one_behind kind 14 (a ++ [] ++ c ++ d ++ e) (payload_fields 14 []) front (sets_one kind 14 [] refl)) in
     ap (λ (m : Option Member). unwrap_or (option_map execute_member m) part.Absent) found
 part_back part.Absent a c d e first third fourth fifth back =
     let kind = kinds.ExecutePlanResponse in
-    let front = both_set_none kind (a ++ [] ++ c ++ d) e (both_set_none kind (a ++ [] ++ c) d (both_set_none kind (a ++ []) c (both_set_none kind a [] first.none tt) third.none) fourth.none) fifth.none in
-    let found = latest_none kind (a ++ [] ++ c ++ d ++ e ++ []) (both_set_none kind (a ++ [] ++ c ++ d ++ e) [] front tt) in
+    let front = two_no_members kind (a ++ [] ++ c ++ d) e (two_no_members kind (a ++ [] ++ c) d (two_no_members kind (a ++ []) c (two_no_members kind a [] first.none tt) third.none) fourth.none) fifth.none in
+    let found = latest_none kind (a ++ [] ++ c ++ d ++ e ++ []) (two_no_members kind (a ++ [] ++ c ++ d ++ e) [] front tt) in
     ap (λ (m : Option Member). unwrap_or (option_map execute_member m) part.Absent) found
 
 -- ---- the schema
@@ -152,7 +144,7 @@ schema_back levels (Some kind) known bits short deep =
     let short_kind = short_payload 7 payload short in
     let kind_back = type_read_back levels kind known bits short_kind deep in
     record {
-      piece = payload_piece levels kinds.ExecutePlanResponse 7 (Message kinds.DataType) payload (is_numbered 7 (omega arith) (omega arith)) refl kind_back.sound short_kind;
+      piece = payload_piece levels kinds.ExecutePlanResponse 7 (Message kinds.DataType) payload is_7 refl kind_back.sound short_kind;
       same = ap (λ (fields : List Field). Some (type_at levels fields)) (append-nil (fields_of payload)) ∙ ap (λ k. Some k) kind_back.same;
     }
 
@@ -206,7 +198,7 @@ execute_back level response known bits short deep = read_back level kinds.Execut
     two_short = short_two a b (short_two (a ++ b) c three_short).0
 
     session : Piece (level - 1) kind 1 a
-    session = text_piece (level - 1) kind 1 response.session_id (is_numbered 1 (omega arith) (omega arith)) refl bits.session_id two_short.0
+    session = text_piece (level - 1) kind 1 response.session_id is_1 refl bits.session_id two_short.0
 
     batch : Piece (level - 1) kind 2 b
     batch = batch_piece (level - 1) response.response_type bits.response_type two_short.1 (omega arith)
@@ -238,49 +230,49 @@ execute_back level response known bits short deep = read_back level kinds.Execut
     session_read : text_field 1 whole ≡ response.session_id
     session_read =
         ap text
-        (payload_before 1 (a ++ b ++ c ++ d ++ e) f (lacks 1 14 f complete.numbered (omega arith))
-        ∙ payload_before 1 (a ++ b ++ c ++ d) e (lacks 1 13 e id.numbered (omega arith))
-        ∙ payload_before 1 (a ++ b ++ c) d (lacks 1 12 d operation.numbered (omega arith))
-        ∙ payload_before 1 (a ++ b) c (lacks 1 7 c schema.piece.numbered (omega arith))
-        ∙ payload_before 1 a b (lacks 1 2 b batch.numbered (omega arith)))
+        (payload_before 1 (a ++ b ++ c ++ d ++ e) f (are_others 1 14 f complete.numbered (omega arith))
+        ∙ payload_before 1 (a ++ b ++ c ++ d) e (are_others 1 13 e id.numbered (omega arith))
+        ∙ payload_before 1 (a ++ b ++ c) d (are_others 1 12 d operation.numbered (omega arith))
+        ∙ payload_before 1 (a ++ b) c (are_others 1 7 c schema.piece.numbered (omega arith))
+        ∙ payload_before 1 a b (are_others 1 2 b batch.numbered (omega arith)))
         ∙ text_back 1 response.session_id bits.session_id
 
     schema_read : option_map (type_at (level - 1)) (joined (payloads 7 whole)) ≡ response.schema
     schema_read =
         ap (λ (ps : List (List ℕ)). option_map (type_at (level - 1)) (joined ps))
-        (payloads_before 7 (a ++ b ++ c ++ d ++ e) f (lacks 7 14 f complete.numbered (omega arith))
-        ∙ payloads_before 7 (a ++ b ++ c ++ d) e (lacks 7 13 e id.numbered (omega arith))
-        ∙ payloads_before 7 (a ++ b ++ c) d (lacks 7 12 d operation.numbered (omega arith))
-        ∙ payloads_behind 7 (a ++ b) c (both_lack 7 a b (lacks 7 1 a session.numbered (omega arith)) (lacks 7 2 b batch.numbered (omega arith))))
+        (payloads_before 7 (a ++ b ++ c ++ d ++ e) f (are_others 7 14 f complete.numbered (omega arith))
+        ∙ payloads_before 7 (a ++ b ++ c ++ d) e (are_others 7 13 e id.numbered (omega arith))
+        ∙ payloads_before 7 (a ++ b ++ c) d (are_others 7 12 d operation.numbered (omega arith))
+        ∙ payloads_behind 7 (a ++ b) c (two_others 7 a b (are_others 7 1 a session.numbered (omega arith)) (are_others 7 2 b batch.numbered (omega arith))))
         ∙ schema.same
 
-    front_lacks : (number : ℕ) → 1 ≢ number → 2 ≢ number → 7 ≢ number → Lack number (a ++ b ++ c)
-    front_lacks = λ number one two seven.
-        both_lack number (a ++ b) c (both_lack number a b (lacks number 1 a session.numbered one) (lacks number 2 b batch.numbered two)) (lacks number 7 c schema.piece.numbered seven)
+    front_others : (number : ℕ) → 1 ≢ number → 2 ≢ number → 7 ≢ number → AreOthers number (a ++ b ++ c)
+    front_others = λ number one two seven.
+        two_others number (a ++ b) c (two_others number a b (are_others number 1 a session.numbered one) (are_others number 2 b batch.numbered two)) (are_others number 7 c schema.piece.numbered seven)
 
     operation_read : text_field 12 whole ≡ response.operation_id
     operation_read =
         ap text
-        (payload_before 12 (a ++ b ++ c ++ d ++ e) f (lacks 12 14 f complete.numbered (omega arith))
-        ∙ payload_before 12 (a ++ b ++ c ++ d) e (lacks 12 13 e id.numbered (omega arith))
-        ∙ payload_behind 12 (a ++ b ++ c) d (front_lacks 12 (omega arith) (omega arith) (omega arith)))
+        (payload_before 12 (a ++ b ++ c ++ d ++ e) f (are_others 12 14 f complete.numbered (omega arith))
+        ∙ payload_before 12 (a ++ b ++ c ++ d) e (are_others 12 13 e id.numbered (omega arith))
+        ∙ payload_behind 12 (a ++ b ++ c) d (front_others 12 (omega arith) (omega arith) (omega arith)))
         ∙ text_back 12 response.operation_id bits.operation_id
 
     id_read : text_field 13 whole ≡ response.response_id
     id_read =
         ap text
-        (payload_before 13 (a ++ b ++ c ++ d ++ e) f (lacks 13 14 f complete.numbered (omega arith))
+        (payload_before 13 (a ++ b ++ c ++ d ++ e) f (are_others 13 14 f complete.numbered (omega arith))
         ∙ payload_behind 13 (a ++ b ++ c ++ d) e
-        (both_lack 13 (a ++ b ++ c) d (front_lacks 13 (omega arith) (omega arith) (omega arith)) (lacks 13 12 d operation.numbered (omega arith))))
+        (two_others 13 (a ++ b ++ c) d (front_others 13 (omega arith) (omega arith) (omega arith)) (are_others 13 12 d operation.numbered (omega arith))))
         ∙ text_back 13 response.response_id bits.response_id
 
     part_read : response_type_of whole ≡ response.response_type
     part_read =
         part_back response.response_type a c d e
-        (beside 1 a session.numbered (omega arith) (sets_none kind 1 a session.numbered refl refl))
-        (beside 7 c schema.piece.numbered (omega arith) (sets_none kind 7 c schema.piece.numbered refl refl))
-        (beside 12 d operation.numbered (omega arith) (sets_none kind 12 d operation.numbered refl refl))
-        (beside 13 e id.numbered (omega arith) (sets_none kind 13 e id.numbered refl refl))
+        (beside 1 a session.numbered (omega arith) (no_members kind 1 a (record { payload = refl; varint = refl }) session.numbered))
+        (beside 7 c schema.piece.numbered (omega arith) (no_members kind 7 c (record { payload = refl; varint = refl }) schema.piece.numbered))
+        (beside 12 d operation.numbered (omega arith) (no_members kind 12 d (record { payload = refl; varint = refl }) operation.numbered))
+        (beside 13 e id.numbered (omega arith) (no_members kind 13 e (record { payload = refl; varint = refl }) id.numbered))
         (batch_back (level - 1) response.response_type bits.response_type two_short.1 (omega arith))
 
     same : execute_at level whole ≡ response

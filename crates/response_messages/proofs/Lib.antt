@@ -1,6 +1,4 @@
-pub mod Messages
 pub mod PairBack
-pub mod Members
 pub mod ExecuteBack
 pub mod AnswerBack
 pub mod ResponseBack

@@ -11,7 +11,7 @@ use expression_messages::{put_message_head, put_texts, put_type};
 use proto_fields::MessageWriter;
 
 /// Puts the result of an analysis before what stands.
-#[tactic(auto, using(crate::proofs::Messages::spell_nil))]
+#[tactic(auto, using(expression_messages::proofs::Written::spell_nil))]
 fn put_result(out: &mut MessageWriter, answer: &AnalyzeResult) -> Result<(), OutOfMemory>
     ensures { OnOk result (out.new ≡ spell (spelled.result_fields answer.now) ++ out.old) }
 {
@@ -35,7 +35,7 @@ fn put_result(out: &mut MessageWriter, answer: &AnalyzeResult) -> Result<(), Out
 }
 
 /// Puts the message of an analysis's response before what stands. Where memory runs out, nothing is promised of what stands then.
-#[tactic(auto, using(crate::proofs::Messages::stand_two))]
+#[tactic(auto, using(expression_messages::proofs::Written::stand_two))]
 pub(crate) fn put_analyze(
     out: &mut MessageWriter,
     response: &AnalyzePlanResponse,
@@ -47,7 +47,7 @@ pub(crate) fn put_analyze(
 }
 
 /// Puts the message of a settings' response before what stands. Where memory runs out, nothing is promised of what stands then.
-#[tactic(auto, using(crate::proofs::Messages::stand_two))]
+#[tactic(auto, using(expression_messages::proofs::Written::stand_two))]
 pub(crate) fn put_config(
     out: &mut MessageWriter,
     response: &ConfigResponse,
@@ -59,7 +59,7 @@ pub(crate) fn put_config(
 }
 
 /// Puts the message of an interruption's response before what stands. Where memory runs out, nothing is promised of what stands then.
-#[tactic(auto, using(crate::proofs::Messages::stand_two))]
+#[tactic(auto, using(expression_messages::proofs::Written::stand_two))]
 pub(crate) fn put_interrupt(
     out: &mut MessageWriter,
     response: &InterruptResponse,
@@ -71,7 +71,7 @@ pub(crate) fn put_interrupt(
 }
 
 /// Puts the message of a release's response before what stands. Where memory runs out, nothing is promised of what stands then.
-#[tactic(auto, using(crate::proofs::Messages::stand_two))]
+#[tactic(auto, using(expression_messages::proofs::Written::stand_two))]
 pub(crate) fn put_release(
     out: &mut MessageWriter,
     response: &ReleaseExecuteResponse,

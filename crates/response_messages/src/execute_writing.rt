@@ -8,7 +8,7 @@ use expression_messages::{TypeMessage, put_message_head, put_type};
 use proto_fields::MessageWriter;
 
 /// Puts plain bytes before what stands, or nothing where there are none.
-#[tactic(auto, using(crate::proofs::Messages::spell_nil))]
+#[tactic(auto, using(expression_messages::proofs::Written::spell_nil))]
 fn put_bytes(out: &mut MessageWriter, number: u32, bytes: &[u8]) -> Result<(), OutOfMemory>
     requires low { 1 ≤ number }
     requires high { number ≤ 536870911 }
@@ -29,7 +29,7 @@ fn put_arrow_batch(out: &mut MessageWriter, batch: &ArrowBatch) -> Result<(), Ou
 }
 
 /// Puts the member `arrow_batch` before what stands, where it is set.
-#[tactic(auto, using(crate::proofs::Messages::spell_nil))]
+#[tactic(auto, using(expression_messages::proofs::Written::spell_nil))]
 fn put_batch(out: &mut MessageWriter, part: &ResponseType) -> Result<(), OutOfMemory>
     ensures { OnOk result (out.new ≡ spell (spelled.batch_fields part.now) ++ out.old) }
 {
@@ -45,7 +45,7 @@ fn put_batch(out: &mut MessageWriter, part: &ResponseType) -> Result<(), OutOfMe
 }
 
 /// Puts the member `result_complete` before what stands, where it is set: an empty message.
-#[tactic(auto, using(crate::proofs::Messages::spell_nil))]
+#[tactic(auto, using(expression_messages::proofs::Written::spell_nil))]
 fn put_complete(out: &mut MessageWriter, part: &ResponseType) -> Result<(), OutOfMemory>
     ensures { OnOk result (out.new ≡ spell (spelled.complete_fields part.now) ++ out.old) }
 {
@@ -57,7 +57,7 @@ fn put_complete(out: &mut MessageWriter, part: &ResponseType) -> Result<(), OutO
 }
 
 /// Puts the schema before what stands, where there is one.
-#[tactic(auto, using(crate::proofs::Messages::spell_nil))]
+#[tactic(auto, using(expression_messages::proofs::Written::spell_nil))]
 fn put_schema(out: &mut MessageWriter, schema: &Option<TypeMessage>) -> Result<(), OutOfMemory>
     ensures { OnOk result (out.new ≡ spell (spelled.schema_fields schema.now) ++ out.old) }
 {

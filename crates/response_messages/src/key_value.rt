@@ -58,7 +58,7 @@ pub fn pairs_from(
 
 /// Puts the pair's message before what stands. An absent value isn't written, an empty one is. Where memory runs out, nothing is promised of
 /// what stands then.
-#[tactic(auto, using(crate::proofs::Messages::stand_two))]
+#[tactic(auto, using(expression_messages::proofs::Written::stand_two))]
 pub fn put_key_value(out: &mut MessageWriter, pair: &KeyValue) -> Result<(), OutOfMemory>
     ensures { OnOk result (out.new ≡ spell (key_value_fields pair.now) ++ out.old) }
 {
@@ -86,7 +86,7 @@ pub fn put_pairs(
 }
 
 /// How many bytes the pair's message takes; 2^64 - 1 where it is above that. It takes no memory.
-#[tactic(auto, using(crate::proofs::Messages::sized_two))]
+#[tactic(auto, using(expression_messages::proofs::Measured::sized_two))]
 pub fn key_value_size(pair: &KeyValue) -> u64
     ensures { result ≡ size_of (key_value_fields pair.now) }
 {

@@ -14,7 +14,7 @@ use proto_fields::{
 };
 
 /// How many bytes plain bytes take with their tag and their length: none where there are none; 2^64 - 1 where it is above that.
-#[tactic(auto, using(crate::proofs::Messages::size_of_nil))]
+#[tactic(auto, using(expression_messages::proofs::Measured::size_of_nil))]
 fn bytes_size(number: u32, bytes: &[u8]) -> u64
     requires low { 1 ≤ number }
     requires high { number ≤ 536870911 }
@@ -35,7 +35,7 @@ fn arrow_batch_size(batch: &ArrowBatch) -> u64
 }
 
 /// How many bytes the member `arrow_batch` takes; 2^64 - 1 where it is above that.
-#[tactic(auto, using(crate::proofs::Messages::size_of_nil))]
+#[tactic(auto, using(expression_messages::proofs::Measured::size_of_nil))]
 fn batch_size(part: &ResponseType) -> u64
     ensures { result ≡ size_of (spelled.batch_fields part.now) }
 {
@@ -47,7 +47,7 @@ fn batch_size(part: &ResponseType) -> u64
 }
 
 /// How many bytes the member `result_complete` takes.
-#[tactic(auto, using(crate::proofs::Messages::size_of_nil))]
+#[tactic(auto, using(expression_messages::proofs::Measured::size_of_nil))]
 fn complete_size(part: &ResponseType) -> u64
     ensures { result ≡ size_of (spelled.complete_fields part.now) }
 {
@@ -59,7 +59,7 @@ fn complete_size(part: &ResponseType) -> u64
 }
 
 /// How many bytes the schema takes with its tag; 2^64 - 1 where it is above that.
-#[tactic(auto, using(crate::proofs::Messages::size_of_nil))]
+#[tactic(auto, using(expression_messages::proofs::Measured::size_of_nil))]
 fn schema_size(schema: &Option<TypeMessage>) -> u64
     ensures { result ≡ size_of (spelled.schema_fields schema.now) }
 {
@@ -87,7 +87,7 @@ fn execute_size(response: &ExecutePlanResponse) -> u64
 }
 
 /// How many bytes the result of an analysis takes; 2^64 - 1 where it is above that.
-#[tactic(auto, using(crate::proofs::Messages::size_of_nil))]
+#[tactic(auto, using(expression_messages::proofs::Measured::size_of_nil))]
 fn result_size(answer: &AnalyzeResult) -> u64
     ensures { result ≡ size_of (spelled.result_fields answer.now) }
 {
@@ -100,7 +100,7 @@ fn result_size(answer: &AnalyzeResult) -> u64
 }
 
 /// How many bytes the message of an analysis's response takes; 2^64 - 1 where it is above that.
-#[tactic(auto, using(crate::proofs::Messages::sized_two))]
+#[tactic(auto, using(expression_messages::proofs::Measured::sized_two))]
 fn analyze_size(response: &AnalyzePlanResponse) -> u64
     ensures { result ≡ size_of (spelled.analyze_fields response.now) }
 {
@@ -108,7 +108,7 @@ fn analyze_size(response: &AnalyzePlanResponse) -> u64
 }
 
 /// How many bytes the message of a settings' response takes; 2^64 - 1 where it is above that.
-#[tactic(auto, using(crate::proofs::Messages::sized_two))]
+#[tactic(auto, using(expression_messages::proofs::Measured::sized_two))]
 fn config_size(response: &ConfigResponse) -> u64
     ensures { result ≡ size_of (spelled.config_fields response.now) }
 {
@@ -119,7 +119,7 @@ fn config_size(response: &ConfigResponse) -> u64
 }
 
 /// How many bytes the message of an interruption's response takes; 2^64 - 1 where it is above that.
-#[tactic(auto, using(crate::proofs::Messages::sized_two))]
+#[tactic(auto, using(expression_messages::proofs::Measured::sized_two))]
 fn interrupt_size(response: &InterruptResponse) -> u64
     ensures { result ≡ size_of (spelled.interrupt_fields response.now) }
 {
@@ -130,7 +130,7 @@ fn interrupt_size(response: &InterruptResponse) -> u64
 }
 
 /// How many bytes the message of a release's response takes; 2^64 - 1 where it is above that.
-#[tactic(auto, using(crate::proofs::Messages::sized_two))]
+#[tactic(auto, using(expression_messages::proofs::Measured::sized_two))]
 fn release_size(response: &ReleaseExecuteResponse) -> u64
     ensures { result ≡ size_of (spelled.release_fields response.now) }
 {

@@ -1,11 +1,11 @@
 -- The depth is that of the parts, one level further out.
-use Rattle.std.proofs.Common.{◌≡◌, ℕ, ◌+◌, max, sym, ap, ◌∙◌}
+use Rattle.std.proofs.Common.{ℕ, ◌+◌, max, sym, ap, ◌∙◌}
 use Rattle.std.specs.Prelude.{option_map, unwrap_or}
 use Rattle.expression_messages.specs.Depths.{told}
 use Rattle.relation_members.specs.Inputs.{first_of, second_of}
 use Rattle.relation_members.specs.Depths.{member_depth}
 use Rattle.relation_messages.specs.declared.relation.Relation.TheViews.{out-Relation}
-use Rattle.relation_messages.specs.Depths.{common_depth, relation_depth}
+use Rattle.relation_messages.specs.Depths.{relation_depth}
 use Rattle.relation_messages.proofs.Folds.{relation_deep}
 use Rattle.relation_messages.proofs.Measured.{told_over}
 use Rattle.relation_messages.proofs.relation_depths.+relation_depths.Goals as goal

@@ -1,5 +1,5 @@
 -- Each return is what the message's fields say at this level.
-use Rattle.std.proofs.Common.{◌<◌, sym, arith}
+use Rattle.std.proofs.Common.{sym, arith}
 use Rattle.proto_fields.specs.Views.{seen, member_of}
 use Rattle.relation_messages.proofs.Levels.{relation_at_some}
 use Rattle.relation_messages.proofs.relation_reading.+relations.Goals as goal

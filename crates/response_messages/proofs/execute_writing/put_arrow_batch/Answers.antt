@@ -3,7 +3,7 @@ use Rattle.std.proofs.Common.{◌≡◌, ℕ, ◌++◌, List, ap, ◌∙◌, SFi
 use Rattle.std.proofs.lemmas.Int.{to_z-of_z}
 use Rattle.std.proofs.lemmas.Result.{on_ok_weaker}
 use Rattle.proto_fields.specs.Spelling.{spell, int_fields, text_fields}
-use Rattle.response_messages.proofs.Messages.{stand_two}
+use Rattle.expression_messages.proofs.Written.{stand_two}
 use Rattle.response_messages.proofs.execute_writing.put_arrow_batch.Goals as goal
 
 pub returns : goal.returns

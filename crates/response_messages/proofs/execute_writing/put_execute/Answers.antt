@@ -3,7 +3,7 @@ use Rattle.std.proofs.Common.{◌≡◌, ℕ, ◌++◌, List, ap, ◌∙◌}
 use Rattle.std.proofs.lemmas.Result.{on_ok_weaker}
 use Rattle.proto_fields.specs.Spelling.{spell, text_fields}
 use Rattle.response_messages.specs.Spelled.{batch_fields, complete_fields, schema_fields}
-use Rattle.response_messages.proofs.Messages.{stand_six}
+use Rattle.field_groups.proofs.Sequences.{stand_six}
 use Rattle.response_messages.proofs.execute_writing.put_execute.Goals as goal
 
 pub returns : goal.returns

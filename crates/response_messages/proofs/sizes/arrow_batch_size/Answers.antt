@@ -3,7 +3,7 @@ use Rattle.std.proofs.Common.{ℕ, List, ap, ◌∙◌, SFits, w64, rules}
 use Rattle.std.proofs.lemmas.Int.{to_z-of_z}
 use Rattle.proto_fields.specs.Spelling.{int_fields, text_fields}
 use Rattle.proto_fields.specs.Sizes.{size_of}
-use Rattle.response_messages.proofs.Messages.{sized_two}
+use Rattle.expression_messages.proofs.Measured.{sized_two}
 use Rattle.response_messages.proofs.sizes.arrow_batch_size.Goals as goal
 
 pub returns : goal.returns

@@ -3,7 +3,7 @@ use Rattle.std.proofs.Common.{ℕ, ◌++◌, List, ap, ◌∙◌}
 use Rattle.proto_fields.specs.Spelling.{text_fields}
 use Rattle.proto_fields.specs.Sizes.{size_of}
 use Rattle.response_messages.specs.Spelled.{batch_fields, complete_fields, schema_fields}
-use Rattle.response_messages.proofs.Messages.{sized_two}
+use Rattle.expression_messages.proofs.Measured.{sized_two}
 use Rattle.response_messages.proofs.sizes.execute_size.Goals as goal
 
 pub returns : goal.returns
