@@ -4,7 +4,6 @@ use Rattle.std.specs.List.{AllByRecursion}
 use Rattle.proto_fields.specs.declared.kind.MessageKind.{MessageKind}
 use Rattle.proto_fields.specs.Fields.{Field, fields_of, IsMessage}
 use Rattle.proto_fields.specs.Faults.{IsSoundField, IsSound}
-use Rattle.proto_fields.specs.Spelling.{spell}
 use Rattle.proto_fields.proofs.FieldLemmas.{IsMessage-append, fields_of-append}
 use Rattle.proto_fields.proofs.LawLemmas.{fields_from_sound, sound_from_fields}
 use Rattle.proto_fields.proofs.SpellLemmas.{spelled_message}
