@@ -1,5 +1,5 @@
 -- What requests that ask something of a plan are spelled as is read as the requests.
-use Rattle.std.proofs.Common.{◌≡◌, ◌≢◌, ℕ, ◌+◌, ◌-◌, ◌≤◌, false, List, [], ◌++◌, Option, refl, ap, ◌∙◌, arith}
+use Rattle.std.proofs.Common.{◌≡◌, ℕ, ◌+◌, ◌-◌, ◌≤◌, List, [], ◌++◌, Option, refl, ap, ◌∙◌, arith}
 use Rattle.std.specs.Prelude.{IsTrue, option_map, unwrap_or}
 use Rattle.std.proofs.lemmas.Bool.{false≢true}
 use Rattle.proto_fields.specs.declared.kind.MessageKind.TheVariants as kinds

@@ -1,6 +1,6 @@
 -- A plan's message that is decoded: the plan is what was spelled, and no fault is left but want of memory. The plan of an ask has a spelling.
-use Rattle.std.proofs.Common.{◌≡◌, ℕ, ◌+◌, ◌^◌, ◌<◌, ◌≤◌, max, true, List, length, Result, Ok, Err, Option, Some, None, refl, sym, ap, ◌∙◌, subst, arith}
-use Rattle.std.specs.Prelude.{IsTrue, FitsSigned}
+use Rattle.std.proofs.Common.{◌≡◌, ℕ, ◌+◌, ◌^◌, ◌<◌, ◌≤◌, max, List, length, Result, Ok, Err, Some, None, refl, sym, ap, ◌∙◌, subst, arith}
+use Rattle.std.specs.Prelude.{FitsSigned}
 use Rattle.std.specs.Int.{w64}
 use Rattle.std.proofs.lemmas.Bool.{false≢true}
 use Rattle.std.specs.Result.{is_ok}
@@ -11,7 +11,6 @@ use Rattle.proto_fields.specs.Fields.{fields_of}
 use Rattle.proto_fields.specs.Faults.{IsSound, Gives}
 use Rattle.proto_fields.specs.Spelling.{spell}
 use Rattle.expression_messages.specs.Laws.{IsShort}
-use Rattle.relation_parts.specs.declared.range.Range.{Range}
 use Rattle.relation_members.specs.declared.member.RelationMember.TheVariants as V
 use Rattle.relation_members.specs.Depths.{member_depth}
 use Rattle.relation_members.specs.Known.{is_known_member}
@@ -23,7 +22,6 @@ use Rattle.relation_messages.specs.Depths.{common_depth, relation_depth}
 use Rattle.relation_messages.specs.Known.{is_known_relation, HasRelationBitsHere, HasRelationBits}
 use Rattle.relation_messages.proofs.Folds.{relation_deep, relation_known}
 use Rattle.plan_messages.specs.declared.plan.Plan.{Plan}
-use Rattle.plan_messages.specs.declared.plan.Plan.TheVariants.{Root}
 use Rattle.plan_messages.specs.Plans.{plan_at}
 use Rattle.plan_messages.specs.Spelled.{plan_fields}
 use Rattle.plan_messages.specs.Depths.{plan_depth}

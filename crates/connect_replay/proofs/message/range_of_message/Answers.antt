@@ -1,5 +1,5 @@
 -- The message of an ask's plan is read as the plan, whose root is the range.
-use Rattle.std.proofs.Common.{◌≡◌, ◌^◌, ◌<◌, ℕ, Option, Some, None, length, sym, ap, ◌∙◌, subst, rules}
+use Rattle.std.proofs.Common.{◌≡◌, ◌^◌, ◌<◌, Option, Some, length, sym, ap, ◌∙◌, subst, rules}
 use Rattle.std.specs.Prelude.{Ok, ◌≤◌, unwrap_or}
 use Rattle.std.specs.Option.{is_some}
 use Rattle.std.proofs.lemmas.Bool.{false≢true}
