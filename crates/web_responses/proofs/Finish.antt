@@ -13,6 +13,7 @@ use Rattle.web_bodies.specs.Standard as body_words
 use Rattle.web_bodies.proofs.Read as bodies_read
 use Rattle.web_frames.specs.declared.status.Trailers.{Trailers}
 use Rattle.web_frames.specs.Standard.{IsBytes}
+use Rattle.web_frames.proofs.ReadsLemmas.{All_back}
 use Rattle.web_contents.specs.declared.fault.WebFault.{WebFault}
 use Rattle.web_contents.specs.declared.fault.WebFault.TheVariants.{Truncated}
 use Rattle.web_contents.specs.declared.place.ContentPlace.TheVariants.{Open, Over, Refused}
@@ -28,7 +29,7 @@ use Rattle.web_responses.specs.Standard.{HasOpening, IsBegunBody, BeginsBody, Be
 use Rattle.web_responses.specs.Laws.{ConnectionsEnd}
 use Rattle.web_responses.proofs.Runs.{head_open}
 use Rattle.web_responses.proofs.Told.{bare_at, empty_complete, bare_begun, opening_is, right_opening, answer_reads, begun_says, whole_says, refused_says}
-use Rattle.web_responses.proofs.Given.{Found, begun, whole, refused, found, bytes_behind}
+use Rattle.web_responses.proofs.Given.{Found, begun, whole, refused, found}
 
 -- ---- behind a right head
 
@@ -123,7 +124,7 @@ only_body bytes told all x ends =
       trailers = x.trailers;
       opening = opening;
       to_end = kind;
-      frames = payload_by x.trailers x.r.body (length x.head) x.rest x.more (bytes_behind x.head x.rest (subst IsBytes opening.bytes_are all)) kind x.body finishes;
+      frames = payload_by x.trailers x.r.body (length x.head) x.rest x.more (All_back x.head x.rest (subst IsBytes opening.bytes_are all)) kind x.body finishes;
     }
 
 only_begun : (bytes : List ℕ) (told : List WebEvent) → IsBytes bytes → BeginsAnswer bytes told → finish (after begin bytes) ≡ Ok true → EndsWithConnection bytes
