@@ -1,49 +1,23 @@
 -- What is written of an answer is bytes.
-use Rattle.std.proofs.Common.{◌≡◌, ℕ, zero, suc, ltb, ◌/◌, ◌%◌, ◌^◌, ◌<◌, ◌≤◌, true, false, cond, List, [], ◌∷◌, ◌++◌, length, refl, arith, codes}
+use Rattle.std.proofs.Common.{◌≡◌, ℕ, ◌/◌, ◌%◌, ◌^◌, ◌<◌, ◌≤◌, true, false, cond, List, [], ◌∷◌, ◌++◌, length, refl, arith, codes}
 use Rattle.std.proofs.Common.{lit≤}
-use Rattle.std.specs.List.{All, flat_map, list_all}
+use Rattle.std.specs.List.{All, flat_map}
 use Rattle.std.specs.Char.{digit_value}
-use Rattle.std.specs.Int.{bytes_high_first, byte_at}
 use Rattle.std.specs.Str.Parse.{AllDigits}
 use Rattle.std.specs.Fmt.{decimal, digits, digit_glyph}
-use Rattle.std.proofs.lemmas.Bool.{and_parts, ltb-true, cond_both}
+use Rattle.std.proofs.lemmas.Bool.{cond_both}
 use Rattle.std.proofs.lemmas.Bool.Decides.{nat_tests}
-use Rattle.std.proofs.lemmas.List.Elements.{All-nil, All-cons, All-head, All-tail, All-append, All-weaker}
+use Rattle.std.proofs.lemmas.List.Elements.{All-nil, All-cons, All-head, All-tail, All-append}
 use Rattle.std.proofs.lemmas.Fmt.{digits_is_IsNumeral}
 use Rattle.percent_encoding.specs.Percent.{percent_sign, percent_encode_byte}
 use Rattle.web_frames.specs.declared.status.Trailers.{Trailers}
-use Rattle.web_frames.specs.Format.{frame, frame_head}
+use Rattle.web_frames.specs.Format.{frame}
 use Rattle.web_frames.specs.Standard.{IsBytes}
 use Rattle.web_frames.specs.Trailers.{is_kept, escaped, line_end, message_line, trailers_text}
 use Rattle.web_writers.specs.Responses.{head_text, chunk, frame_chunk, message_bytes, end_bytes, body_bytes, answer_bytes, MayBeWritten}
-use Rattle.web_writers.proofs.RequestHead.{digits_visible}
+use Rattle.web_writers.proofs.Bytes.{IsByte, frame_bytes, digit_bytes, closed_bytes}
 use Rattle.web_writers.proofs.TrailersText.{length-trailers_text}
 use Rattle.web_writers.proofs.ReadBack.{frame-length}
-
-abbrev IsByte : ℕ → Type 0
-IsByte b = b < 256
-
-pub closed_bytes : (text : List ℕ) → list_all (λ b. ltb b 256) text ≡ true → IsBytes text
-closed_bytes [] e = All-nil IsByte
-closed_bytes (b ∷ text) e =
-    let parts = and_parts (ltb b 256) (list_all (λ b. ltb b 256) text) e in
-    All-cons IsByte b text (ltb-true b 256 parts.0) (closed_bytes text parts.1)
-
--- ---- frames
-
-byte_small : (i n : ℕ) → byte_at i n < 256
-byte_small zero n = omega arith
-byte_small (suc i) n = omega arith
-
-high_bytes : (k n : ℕ) → IsBytes (bytes_high_first k n)
-high_bytes zero n = All-nil IsByte
-high_bytes (suc k) n = All-cons IsByte (byte_at k n) (bytes_high_first k n) (byte_small k n) (high_bytes k n)
-
-frame_bytes : (flag : ℕ) (payload : List ℕ) → flag < 256 → IsBytes payload → IsBytes (frame flag payload)
-unfolding frame_head
-frame_bytes flag payload small all =
-    All-append IsByte (frame_head flag (length payload)) payload
-    (All-cons IsByte flag (bytes_high_first 4 (length payload)) small (high_bytes 4 (length payload))) all
 
 -- ---- chunks
 
@@ -107,16 +81,13 @@ line_bytes (b ∷ message) =
     (All-append IsByte (codes "grpc-message:") (escaped (b ∷ message)) (closed_bytes (codes "grpc-message:") refl) (escaped_bytes (b ∷ message)))
     (closed_bytes line_end refl)
 
-status_bytes : (n : ℕ) → n < 2 ^ 64 → IsBytes (decimal n)
-status_bytes n fits = All-weaker (λ b. (0x21 ≤ b) × (b ≤ 0x7E)) IsByte (λ b v. omega arith) (decimal n) (digits_visible n fits)
-
 text_bytes : (trailers : Trailers) → trailers.status < 2 ^ 32 → IsBytes (trailers_text trailers)
 unfolding trailers_text
 text_bytes trailers small =
     All-append IsByte (codes "grpc-status:" ++ decimal trailers.status ++ line_end) (message_line trailers.message)
     (All-append IsByte (codes "grpc-status:" ++ decimal trailers.status) line_end
     (All-append IsByte (codes "grpc-status:") (decimal trailers.status) (closed_bytes (codes "grpc-status:") refl)
-    (status_bytes trailers.status (omega arith)))
+    (digit_bytes trailers.status (omega arith)))
     (closed_bytes line_end refl))
     (line_bytes trailers.message)
 

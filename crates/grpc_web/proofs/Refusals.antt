@@ -14,7 +14,6 @@ use Rattle.web_heads.specs.declared.body.BodyKind.TheVariants.{Length, ToEnd}
 use Rattle.web_heads.specs.declared.response.ResponseHead.{ResponseHead}
 use Rattle.web_heads.specs.Fields.{values, first_value, inner_lines}
 use Rattle.web_heads.specs.Standard.{HasManyLines, HasGrpcType, IsChunked, response_fields, ResponseSays}
-use Rattle.web_heads.proofs.TreeLemmas.{IsToken-is_token}
 use Rattle.web_head_reader.specs.Standard.{IsHead}
 use Rattle.web_frames.specs.declared.limits.Side.TheVariants.{Response}
 use Rattle.web_frames.specs.Standard.{IsBytes}
@@ -25,9 +24,10 @@ use Rattle.web_responses.specs.Standard.{HasAnswer}
 use Rattle.web_responses.specs.Laws.{events_of_pieces}
 use Rattle.web_responses.proofs.Read as answers
 use Rattle.web_writers.specs.Responses.{phrase_of, refused_text}
+use Rattle.web_writers.proofs.Bytes.{closed_bytes}
+use Rattle.web_writers.proofs.Fields.{is_field}
 use Rattle.web_writers.proofs.Lines.{head_of, is_line, first_end, feeds, feeds-lines}
 use Rattle.grpc_web.specs.Laws.{IsRefusal, refusal_events, RefusalsAreReadBack}
-use Rattle.grpc_web.proofs.Bytes.{closed_bytes}
 use Rattle.grpc_web.proofs.ReadBack.{place_of, told_of}
 
 -- the head as a tree of the grammar
@@ -73,11 +73,6 @@ unfolding inner_lines
 few_lines {status} {digits} {phrase} x many =
     let counted = ap feeds x.in_lines ∙ feeds-lines (lines digits phrase) x.plain in
     absurd (omega arith)
-
-is_field : (name raw : List ℕ) → grammar.is_token name ≡ true → list_all grammar.is_value_byte raw ≡ true
-    → grammar.IsField (record { name = name; raw = raw; end = grammar.crlf })
-is_field name raw token plain =
-    record { name = IsToken-is_token name token; raw = AllPass-from_list_all grammar.is_value_byte raw plain }
 
 two : {a b : grammar.Field} → grammar.IsField a → grammar.IsField b → All grammar.IsField (a ∷ b ∷ [])
 two {a} {b} xa xb = All-cons grammar.IsField a (b ∷ []) xa (All-cons grammar.IsField b [] xb (All-nil grammar.IsField))

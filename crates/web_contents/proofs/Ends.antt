@@ -17,7 +17,9 @@ use Rattle.web_frames.specs.declared.status.Trailers.{Trailers}
 use Rattle.web_frames.specs.Machine.{FrameState}
 use Rattle.web_frames.specs.Machine as frames
 use Rattle.web_frames.proofs.MachineLemmas as machine
+use Rattle.web_frames.proofs.FrameLemmas.{append_some}
 use Rattle.web_frames.proofs.FaultLemmas.{SettlesLast-IsFault}
+use Rattle.web_frames.proofs.LawLemmas.{longer_front}
 use Rattle.web_contents.specs.declared.fault.WebFault.{WebFault}
 use Rattle.web_contents.specs.declared.place.ContentPlace.TheVariants.{Open}
 use Rattle.web_contents.specs.Contents.{place_of, after, begin}
@@ -106,24 +108,10 @@ before_bad_body side kind at front b back messages trailers fault x =
     open_from side kind at front (b ∷ back) x.payload y.1 (good_frames side x.payload messages trailers x.frames).good
     (body_open kind at front (bodies_read.ends_are_first.refused kind at front b back x.payload x.found x.settled))
 
--- a proper beginning of bytes is a beginning of them without the last
-some_there : (front back : List ℕ) (c : ℕ) → [] ≡ front ++ c ∷ back → ⊥
-some_there [] back c e = cc
-some_there (b ∷ front) back c e = cc
-
-pub longer_front : (front back init : List ℕ) (c last : ℕ) → front ++ c ∷ back ≡ init ++ last ∷ [] → (middle : List ℕ) × (init ≡ front ++ middle)
-longer_front [] back init c last e = (init, refl)
-longer_front (b ∷ front) back [] c last e = let rest : [] ≡ front ++ c ∷ back = cc in absurd (some_there front back c rest)
-longer_front (b ∷ front) back (d ∷ init) c last e =
-    let first : d ≡ b = cc in
-    let rest : front ++ c ∷ back ≡ init ++ last ∷ [] = cc in
-    let found = longer_front front back init c last rest in
-    (found.0, let tail = found.1 in cc)
-
 same_init : (first second : List ℕ) (c d : ℕ) → first ++ c ∷ [] ≡ second ++ d ∷ [] → first ≡ second
 same_init [] [] c d e = refl
-same_init [] (b ∷ second) c d e = let rest : [] ≡ second ++ d ∷ [] = cc in absurd (some_there second [] d rest)
-same_init (b ∷ first) [] c d e = let rest : [] ≡ first ++ c ∷ [] = cc in absurd (some_there first [] c rest)
+same_init [] (b ∷ second) c d e = let rest : second ++ d ∷ [] ≡ [] = cc in absurd (append_some second (d ∷ []) (λ none. cc) rest)
+same_init (b ∷ first) [] c d e = let rest : first ++ c ∷ [] ≡ [] = cc in absurd (append_some first (c ∷ []) (λ none. cc) rest)
 same_init (b ∷ first) (g ∷ second) c d e =
     let one : b ≡ g = cc in
     let rest : first ++ c ∷ [] ≡ second ++ d ∷ [] = cc in

@@ -18,6 +18,7 @@ use Rattle.web_frames.specs.declared.status.Trailers.{Trailers}
 use Rattle.web_frames.specs.declared.state.FramePlace.TheVariants as frame
 use Rattle.web_frames.specs.Machine as frames
 use Rattle.web_frames.specs.Standard.{IsBytes, IsFault}
+use Rattle.web_frames.proofs.FrameLemmas.{append_some}
 use Rattle.web_frames.proofs.FaultLemmas.{SettlesLast-IsFault}
 use Rattle.web_frames.proofs.LawLemmas.{frames_are_read, faults_are_read}
 use Rattle.web_contents.specs.declared.fault.WebFault.{WebFault}
@@ -80,10 +81,6 @@ emitted-false : (body : Body) (b : ℕ) → bodies.awaits_payload body.place ≡
 unfolding bodies.emitted
 emitted-false body b e = cond-false (bodies.awaits_payload body.place) (b ∷ []) [] e
 
-nothing_there : (front more : List ℕ) (last : ℕ) → [] ≡ front ++ last ∷ more → ⊥
-nothing_there [] more last e = cc
-nothing_there (b ∷ front) more last e = cc
-
 payload_after-cons : (body : Body) (b : ℕ) (bytes : List ℕ)
     → bodies.payload_after body (b ∷ bytes) ≡ bodies.emitted body b ++ bodies.payload_after (bodies.body_step body b) bytes
 unfolding bodies.payload_after
@@ -123,7 +120,7 @@ split_first body b bytes rest (inl awaits) front more last e =
 split_first body b bytes rest (inr awaits) front more last e = split_framing body b bytes rest awaits front more last e
 
 pub split : (body : Body) (bytes : List ℕ) → SplitsRest body bytes
-split body [] front more last e = absurd (nothing_there front more last (sym (runs.payload_after-nil body) ∙ e))
+split body [] front more last e = absurd (append_some front (last ∷ more) (λ none. cc) (sym e ∙ runs.payload_after-nil body))
 split body (b ∷ bytes) front more last e =
     split_first body b bytes (split (bodies.body_step body b) bytes) (cases_Bool (bodies.awaits_payload body.place)) front more last e
 

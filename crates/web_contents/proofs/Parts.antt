@@ -3,7 +3,7 @@ use Rattle.std.proofs.Common.{◌≡◌, ℕ, List, [], ◌∷◌, ◌++◌, ref
 use Rattle.std.specs.Prelude.{fold}
 use Rattle.std.specs.List.{concat}
 use Rattle.std.proofs.lemmas.List.Sums.{fold-append}
-use Rattle.std.proofs.Common.{append_assoc}
+use Rattle.std.proofs.Common.{append_assoc, append-nil}
 use Rattle.web_bodies.specs.Steps as bodies
 use Rattle.web_frames.specs.declared.event.FrameEvent.{FrameEvent}
 use Rattle.web_frames.specs.Machine.{FrameState}
@@ -44,6 +44,22 @@ after-nil c = refl
 pub events_of-nil : (c : Content) → events_of c [] ≡ []
 unfolding events_of
 events_of-nil c = refl
+
+pub after-cons : (c : Content) (b : ℕ) (bytes : List ℕ) → after c (b ∷ bytes) ≡ after (content_step c b) bytes
+unfolding after
+after-cons c b bytes = refl
+
+pub events_of-cons : (c : Content) (b : ℕ) (bytes : List ℕ) → events_of c (b ∷ bytes) ≡ content_events c b ++ events_of (content_step c b) bytes
+unfolding events_of
+events_of-cons c b bytes = refl
+
+pub after-one : (c : Content) (b : ℕ) → after c (b ∷ []) ≡ content_step c b
+after-one c b = after-cons c b [] ∙ after-nil (content_step c b)
+
+pub events_of-one : (c : Content) (b : ℕ) → events_of c (b ∷ []) ≡ content_events c b
+events_of-one c b =
+    events_of-cons c b [] ∙ ap (λ (rest : List FrameEvent). content_events c b ++ rest) (events_of-nil (content_step c b))
+    ∙ append-nil (content_events c b)
 
 pub after-append : (c : Content) (front back : List ℕ) → after c (front ++ back) ≡ after (after c front) back
 unfolding after

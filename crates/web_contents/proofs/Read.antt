@@ -1,10 +1,11 @@
 -- The laws of contents, for all bytes.
-use Rattle.std.proofs.Common.{◌≡◌, ℕ, ◌⊎◌, inl, inr, List, [], ◌∷◌, ◌++◌, refl, sym, ◌∙◌, subst, Option, Some, None}
+use Rattle.std.proofs.Common.{◌≡◌, ℕ, ◌⊎◌, inl, inr, List, [], ◌∷◌, ◌++◌, refl, sym, ◌∙◌, subst, Option}
 use Rattle.web_heads.specs.declared.body.BodyKind.{BodyKind}
 use Rattle.web_frames.specs.declared.limits.Side.{Side}
 use Rattle.web_frames.specs.declared.status.Trailers.{Trailers}
 use Rattle.web_frames.specs.declared.event.FrameEvent.{FrameEvent}
 use Rattle.web_frames.specs.Standard.{IsBytes, events}
+use Rattle.web_frames.proofs.LawLemmas.{same_events}
 use Rattle.web_contents.specs.declared.fault.WebFault.{WebFault}
 use Rattle.web_contents.specs.declared.place.ContentPlace.{ContentPlace}
 use Rattle.web_contents.specs.declared.place.ContentPlace.TheVariants.{Open, Over, Refused}
@@ -27,22 +28,6 @@ pieces_join = record {
 }
 
 -- ---- one list of messages and trailers
-
-same_events : (messages others : List (List ℕ)) (trailers other : Option Trailers) → events messages trailers ≡ events others other
-    → (messages ≡ others) × (trailers ≡ other)
-same_events [] [] None None e = (refl, refl)
-same_events [] [] None (Some t) e = absurd (cc)
-same_events [] [] (Some t) None e = absurd (cc)
-same_events [] [] (Some t) (Some u) e = (refl, cc)
-same_events [] (m ∷ others) None other e = absurd (cc)
-same_events [] (m ∷ others) (Some t) other e = absurd (cc)
-same_events (m ∷ messages) [] trailers None e = absurd (cc)
-same_events (m ∷ messages) [] trailers (Some t) e = absurd (cc)
-same_events (m ∷ messages) (n ∷ others) trailers other e =
-    let first : m ≡ n = cc in
-    let rest : events messages trailers ≡ events others other = cc in
-    let both = same_events messages others trailers other rest in
-    (let tail = both.0 in cc, both.1)
 
 -- what holds of the messages and trailers that are told, holds of those that are the same events
 moved : (P : List (List ℕ) → Option Trailers → Type 0) (messages others : List (List ℕ)) (trailers other : Option Trailers) (told : List FrameEvent)
@@ -132,16 +117,16 @@ same_settled side kind at first second messages others trailers other fault wron
 same_settled side kind at first second messages others trailers other fault wrong x y (longer b back e) =
     absurd (no_earlier side kind at second b back first others messages other trailers wrong fault e y x)
 
-open_not_over : (place : ContentPlace) → place ≡ Open → place ≡ Over → ⊥
+pub open_not_over : (place : ContentPlace) → place ≡ Open → place ≡ Over → ⊥
 open_not_over place e f = cc
 
-open_not_refused : (place : ContentPlace) (fault : WebFault) → place ≡ Open → place ≡ Refused fault → ⊥
+pub open_not_refused : (place : ContentPlace) (fault : WebFault) → place ≡ Open → place ≡ Refused fault → ⊥
 open_not_refused place fault e f = cc
 
-over_not_refused : (place : ContentPlace) (fault : WebFault) → place ≡ Over → place ≡ Refused fault → ⊥
+pub over_not_refused : (place : ContentPlace) (fault : WebFault) → place ≡ Over → place ≡ Refused fault → ⊥
 over_not_refused place fault e f = cc
 
-one_refusal : (place : ContentPlace) (fault wrong : WebFault) → place ≡ Refused fault → place ≡ Refused wrong → fault ≡ wrong
+pub one_refusal : (place : ContentPlace) (fault wrong : WebFault) → place ≡ Refused fault → place ≡ Refused wrong → fault ≡ wrong
 one_refusal place fault wrong e f = cc
 
 one_fault : (side : Side) (kind : BodyKind) (at : ℕ) (bytes : List ℕ) (messages others : List (List ℕ)) (trailers other : Option Trailers)

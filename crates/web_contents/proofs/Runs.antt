@@ -5,6 +5,7 @@ use Rattle.std.specs.Option.{option_to_list}
 use Rattle.std.specs.Int.{w32, from_be_bytes}
 use Rattle.std.proofs.Math.Seq.{take-add}
 use Rattle.std.proofs.lemmas.Bool.{false≢true, cond_both}
+use Rattle.std.proofs.lemmas.List.{take-take}
 use Rattle.web_bodies.specs.declared.fault.BodyFault.{BodyFault}
 use Rattle.web_bodies.specs.declared.fault.BodyFault.TheVariants as body_fault
 use Rattle.web_bodies.specs.declared.place.BodyPlace.{BodyPlace}
@@ -27,6 +28,7 @@ use Rattle.web_frames.specs.Machine.{FrameState, Settled, more, told, faulty, is
 use Rattle.web_frames.specs.Machine as frames
 use Rattle.web_frames.specs.Trailers.{trailers_in}
 use Rattle.web_frames.proofs.MachineLemmas as machine
+use Rattle.web_frames.proofs.ReaderLemmas.{after-side}
 use Rattle.web_contents.specs.declared.event.ContentEvent.{ContentEvent}
 use Rattle.web_contents.specs.declared.event.ContentEvent.TheVariants as content_event
 use Rattle.web_contents.specs.declared.fault.WebFault.{WebFault}
@@ -38,28 +40,6 @@ use Rattle.web_contents.specs.Contents.{Content, is_complete, place_of, after, e
 use Rattle.web_contents.specs.Calls.{TakesPiece, Takes, Tells, Leads, Settles, Refuses, RunTells, TakesRun, Gives, told_of}
 use Rattle.web_contents.proofs.Parts.{parts, after-parts, events_of-parts, after-append, events_of-append, after-nil, events_of-nil}
 use Rattle.web_contents.proofs.Places.{IsGood, Standing, going_on, over, too_early, bad_body, bad_frames, standing, place-bad_body, place-bad_frames, refused-stays}
-
--- ---- frames keep their side
-
-state_side : (side : Side) (held : List ℕ) (settled : Settled) → (state_of side held settled).side ≡ side
-state_side side held more = refl
-state_side side held (told event) = refl
-state_side side held (faulty fault) = refl
-
-step_side : (place : FramePlace) (s : FrameState) (b : ℕ) → (frames.step_at place s b).side ≡ s.side
-step_side frame.Open s b = state_side s.side (s.held ++ b ∷ []) (settled_by s.side (s.held ++ b ∷ []))
-step_side frame.Whole s b = refl
-step_side frame.Over s b = refl
-step_side (frame.Refused fault) s b = refl
-
-frame_step_side : (s : FrameState) (b : ℕ) → (frame_step s b).side ≡ s.side
-unfolding frame_step
-frame_step_side s b = step_side s.place s b
-
-pub after_side : (s : FrameState) (bytes : List ℕ) → (frames.after s bytes).side ≡ s.side
-after_side s [] = ap (λ (t : FrameState). t.side) (machine.after-nil s)
-after_side s (b ∷ bytes) =
-    ap (λ (t : FrameState). t.side) (machine.after-cons s b bytes) ∙ after_side (frame_step s b) bytes ∙ frame_step_side s b
 
 -- ---- an event leaves frames that are complete
 
@@ -172,7 +152,7 @@ pub refused_frames : (old : FrameState) (piece : List ℕ) (fault : FrameFault) 
 refused_frames old piece fault new x = go fault x
   where
     stopped : (fault : FrameFault) → Stopped old piece fault new → (new.place ≡ frame.Refused fault) × (new.side ≡ old.side)
-    stopped fault x = (x.refused, ap (λ (s : FrameState). s.side) x.state ∙ after_side old piece)
+    stopped fault x = (x.refused, ap (λ (s : FrameState). s.side) x.state ∙ after-side old piece)
 
     go : (fault : FrameFault) → Feeds old piece (Err fault) new → (new.place ≡ frame.Refused fault) × (new.side ≡ old.side)
     go (frame_fault.FrameTooLong count) x = stopped (frame_fault.FrameTooLong count) x
@@ -260,7 +240,7 @@ one_of : (piece : List ℕ) → 0 < length piece → (b : ℕ) × (take 1 piece 
 one_of [] some = absurd (omega arith)
 one_of (b ∷ piece) some = (b, refl)
 
-last_of : (piece : List ℕ) (count : ℕ) → 0 < count → count ≤ length piece → (b : ℕ) × (take count piece ≡ take (count - 1) piece ++ b ∷ [])
+pub last_of : (piece : List ℕ) (count : ℕ) → 0 < count → count ≤ length piece → (b : ℕ) × (take count piece ≡ take (count - 1) piece ++ b ∷ [])
 last_of piece count some within =
     let one = one_of (drop (count - 1) piece) (omega (arith, length-drop (count - 1) piece)) in
     let whole : count - 1 + 1 ≡ count = omega arith in
@@ -339,12 +319,6 @@ refuses_payload old payload fault new all x = go fault x
 
 -- ---- a run of a part of the piece
 
-take-take : (n count : ℕ) (piece : List ℕ) → n ≤ count → count ≤ length piece → take n (take count piece) ≡ take n piece
-take-take zero count piece fits within = refl
-take-take (suc n) zero piece fits within = absurd (omega arith)
-take-take (suc n) (suc count) [] fits within = absurd (omega arith)
-take-take (suc n) (suc count) (b ∷ piece) fits within = ap (λ (rest : List ℕ). b ∷ rest) (take-take n count piece (omega arith) (omega arith))
-
 refuses_more : (old : Content) (front back : List ℕ) (fault : WebFault) (new : Content) → Refuses old front fault new → Refuses old (front ++ back) fault new
 refuses_more old front back fault new x = go fault x
   where
@@ -378,7 +352,7 @@ refuses_more old front back fault new x = go fault x
 first_part : (old : Content) (piece : List ℕ) (count n : ℕ) (event : Option FrameEvent) → n ≤ count → count ≤ length piece
     → OnSome event (events_of old (take (n - 1) (take count piece)) ≡ []) → OnSome event (events_of old (take (n - 1) piece) ≡ [])
 first_part old piece count n None fits within first = tt
-first_part old piece count n (Some event) fits within first = ap (events_of old) (sym (take-take (n - 1) count piece (omega arith) within)) ∙ first
+first_part old piece count n (Some event) fits within first = ap (events_of old) (sym (take-take (n - 1) count piece (omega arith))) ∙ first
 
 pub run_part : (old : Content) (piece : List ℕ) (count : ℕ) (result : Result (ℕ × Option FrameEvent) WebFault) (new : Content) → count ≤ length piece
     → TakesRun old (take count piece) result new → TakesRun old piece result new
@@ -387,7 +361,7 @@ run_part old piece count (Ok answer) new within x =
     let takes = x.takes in
     let inside = takes.within in
     let fits : n ≤ count = let whole = length-take-le count piece within in omega arith in
-    let same = take-take n count piece fits within in
+    let same = take-take n count piece fits in
     record {
       some = x.some;
       takes = record { within = omega arith; state = takes.state ∙ ap (after old) same; counted = takes.counted };

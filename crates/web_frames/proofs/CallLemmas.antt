@@ -12,6 +12,7 @@ use Rattle.web_frames.specs.Machine.{frame_limit, FrameState, Settled, more, tol
 use Rattle.web_frames.specs.Parts.{FeedsAll, EndsWith, Ends, length_in, lacking, is_more, is_open, HoldsFrame}
 use Rattle.web_frames.proofs.MachineLemmas.{open_at}
 use Rattle.web_frames.proofs.SettledLemmas.{size_of, settled_by-nil, settled_by_length-too_long, settled_by_length-part, settled_by_length-whole}
+use Rattle.web_frames.proofs.ReadsLemmas.{state_at}
 use Rattle.web_frames.proofs.ReaderLemmas.{Took-nothing, Feeds-refused, Feeds-past, EndsWith-goes_on, FeedsAll-byte_held, FeedsAll-byte_fault, FeedsAll-byte_ends, flag_settled, settled_by-flag, flag_no_memory, settled_by-early, settled_by-fifth, IsHeaded-more, FeedsAll-part, unsettled-part, FeedsAll-last}
 
 -- ---- parts
@@ -41,9 +42,6 @@ HoldsFrame-empty side place head payload room none = record {
   unsettled = λ is_there. ap (λ (held : List ℕ). is_more (settled_by side held)) none ∙ ap is_more (settled_by-nil side);
   empty = λ closed. (refl, none);
 }
-
-abbrev state_by : Side → FramePlace → List ℕ → FrameState
-state_by side place held = record { side = side; place = place; held = held }
 
 open_state : (old : FrameState) → old.place ≡ Open → old ≡ open_at old.side old.held
 open_state old e = ap (λ (place : FramePlace). let s : FrameState = record { side = old.side; place = place; held = old.held } in s) e
@@ -270,10 +268,10 @@ pub FeedsAll-longer : (side : Side) (place : FramePlace) (head : List ℕ) (coun
 FeedsAll-longer side place head count payload old piece longer view holds is_there many part longer_is =
     let held : old.held ++ piece ≡ take count head ++ longer =
     sym (ap (λ (back : List ℕ). take count head ++ back) longer_is ∙ sym (append_assoc (take count head) payload piece) ∙ ap (λ (s : FrameState). s.held ++ piece) view) in
-    let next : open_at old.side (old.held ++ piece) ≡ state_by side place (take count head ++ longer) =
+    let next : open_at old.side (old.held ++ piece) ≡ state_at side place (take count head ++ longer) =
     ap (open_at old.side) held ∙ ap (λ (s : Side). open_at s (take count head ++ longer)) (sym (ap (λ (s : FrameState). s.side) view))
-    ∙ ap (λ (p : FramePlace). state_by side p (take count head ++ longer)) (sym (ap (λ (s : FrameState). s.place) view ∙ is_there)) in
-    subst (λ (s : FrameState). FeedsAll s piece (Ok None) (state_by side place (take count head ++ longer))) (sym (open_state old is_there))
+    ∙ ap (λ (p : FramePlace). state_at side p (take count head ++ longer)) (sym (ap (λ (s : FrameState). s.place) view ∙ is_there)) in
+    subst (λ (s : FrameState). FeedsAll s piece (Ok None) (state_at side place (take count head ++ longer))) (sym (open_state old is_there))
     (subst (λ (s : FrameState). FeedsAll (open_at old.side old.held) piece (Ok None) s) next
     (FeedsAll-part old.side old.held piece (unsettled_now side place head count payload old view holds is_there) many part))
 

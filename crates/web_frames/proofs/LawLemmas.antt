@@ -11,9 +11,10 @@ use Rattle.web_frames.specs.declared.event.FrameEvent.TheVariants as event
 use Rattle.web_frames.specs.declared.state.FramePlace.{FramePlace}
 use Rattle.web_frames.specs.declared.state.FramePlace.TheVariants.{Open, Whole, Over, Refused}
 use Rattle.web_frames.specs.Machine.{frame_limit, frame, FrameState, refused_at, begin, after, events_of, between_at, is_between, whole_at, is_whole}
-use Rattle.web_frames.specs.Standard.{TrailersSay, IsBytes, MayStand, IsMessage, Frames, IsFault, IsRefused, StandsAt, events}
+use Rattle.web_frames.specs.Standard.{TrailersSay, IsBytes, IsMessage, Frames, IsFault, IsRefused, StandsAt, events}
 use Rattle.web_frames.specs.Laws.{FramesAreRead, WholeFramesAreRead, FaultsAreRead, RequestsAreRead, WrittenFramesAreRead}
 use Rattle.web_frames.proofs.MachineLemmas.{after-append, events_of-append, after-refused}
+use Rattle.web_frames.proofs.ReadingLemmas.{plain_flag}
 use Rattle.web_frames.proofs.ReadsLemmas.{given, only, run_refused}
 use Rattle.web_frames.proofs.FrameLemmas.{append_some, no_request_trailers, run_message, run_frames, place_of, GoesOn-Frames}
 use Rattle.web_frames.proofs.FaultLemmas.{SettlesLast-IsFault}
@@ -54,7 +55,7 @@ whole_between side bytes all between =
     (reads.messages, reads.trailers, frames_between state.place side bytes reads.messages reads.trailers state.held reads.stands between)
 
 -- messages and trailers are told apart
-same_events : (messages others : List (List ℕ)) (trailers other : Option Trailers) → events messages trailers ≡ events others other → (messages ≡ others) × (trailers ≡ other)
+pub same_events : (messages others : List (List ℕ)) (trailers other : Option Trailers) → events messages trailers ≡ events others other → (messages ≡ others) × (trailers ≡ other)
 same_events [] [] None None e = (refl, refl)
 same_events [] [] None (Some t) e = absurd (cc)
 same_events [] [] (Some t) None e = absurd (cc)
@@ -97,7 +98,7 @@ faults_settled side bytes messages trailers fault is =
     let read = run_refused side bytes messages trailers fault is in (ap (λ (s : FrameState). s.place) read.0, read.1)
 
 -- a proper beginning of bytes is a beginning of them without the last
-longer_front : (front back init : List ℕ) (c last : ℕ) → front ++ c ∷ back ≡ init ++ last ∷ [] → (middle : List ℕ) × (init ≡ front ++ middle)
+pub longer_front : (front back init : List ℕ) (c last : ℕ) → front ++ c ∷ back ≡ init ++ last ∷ [] → (middle : List ℕ) × (init ≡ front ++ middle)
 longer_front [] back init c last e = (init, refl)
 longer_front (b ∷ front) back [] c last e = let rest : front ++ c ∷ back ≡ [] = cc in absurd (append_some front (c ∷ back) (λ none. cc) rest)
 longer_front (b ∷ front) back (d ∷ init) c last e =
@@ -166,14 +167,10 @@ requests_are_read = record { whole = request_whole; told = request_told }
 
 -- ---- written frames
 
-plain_message : (side : Side) → MayStand side 0
-plain_message Request = (λ set. set refl, λ set. set refl)
-plain_message Response = λ set. set refl
-
 IsMessage-written : (side : Side) (message : List ℕ) → length message ≤ frame_limit side → IsMessage side (frame 0 message) message
 IsMessage-written side message fits = record {
   flag = 0;
-  frame = record { whole = refl; may_stand = plain_message side; fits = fits };
+  frame = record { whole = refl; may_stand = plain_flag side; fits = fits };
   plain = λ set. set refl;
 }
 

@@ -43,7 +43,7 @@ zeros-IsBytes : (count : ℕ) → IsBytes (zeros count)
 unfolding zeros
 zeros-IsBytes count = λ k d within. rw (get_or-replicate count k 0 d (omega (arith, length-replicate {A = ℕ} count 0))) (omega arith)
 
-plain_flag : (side : Side) → MayStand side 0
+pub plain_flag : (side : Side) → MayStand side 0
 plain_flag Request = (λ set. set refl, λ set. set refl)
 plain_flag Response = λ set. set refl
 

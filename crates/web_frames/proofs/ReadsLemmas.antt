@@ -134,7 +134,7 @@ open_reads side front held messages told (faulty OutOfMemory) goes told_is settl
 
 -- ---- one byte more at each place
 
-All_back : (front back : List ℕ) → IsBytes (front ++ back) → IsBytes back
+pub All_back : (front back : List ℕ) → IsBytes (front ++ back) → IsBytes back
 All_back [] back all = all
 All_back (b ∷ front) back all = All_back front back (All-tail (λ d. d < 256) b (front ++ back) all)
 
@@ -147,7 +147,7 @@ Reads-moved side bytes others told tells state next bytes_are tells_are state_is
     (subst (λ (s : FrameState). Reads side bytes told s) (sym state_is) reads))
 
 -- a state by its parts
-abbrev state_at : Side → FramePlace → List ℕ → FrameState
+abbrev pub state_at : Side → FramePlace → List ℕ → FrameState
 state_at side place held = record { side = side; place = place; held = held }
 
 reads_at : (side : Side) (bytes : List ℕ) (b : ℕ) (told : List FrameEvent) (place : FramePlace) (held : List ℕ) → IsBytes (bytes ++ b ∷ []) → Reads side bytes told (state_at side place held)
@@ -203,7 +203,7 @@ reads_step side bytes b told state all reads =
 
 -- ---- from the beginning
 
-All_front : (front back : List ℕ) → IsBytes (front ++ back) → IsBytes front
+pub All_front : (front back : List ℕ) → IsBytes (front ++ back) → IsBytes front
 All_front [] back all = All-nil (λ d. d < 256)
 All_front (b ∷ front) back all =
     All-cons (λ d. d < 256) b front (All-head (λ d. d < 256) b (front ++ back) all) (All_front front back (All-tail (λ d. d < 256) b (front ++ back) all))

@@ -54,7 +54,7 @@ printed_codes (b ∷ text) all = let parts = and_parts (leb 32 b) (list_all (leb
 
 -- ---- the status
 
-abbrev IsDigit : ℕ → Type 0
+abbrev pub IsDigit : ℕ → Type 0
 IsDigit b = (48 ≤ b) × (b ≤ 57)
 
 digit_range : (b : ℕ) → digit_value b < 10 → IsDigit b
@@ -67,17 +67,17 @@ All-AllDigits (b ∷ digits) all = All-cons IsDigit b digits (digit_range b all.
 is_digit_from : (b : ℕ) → IsDigit b → is_ascii_digit b ≡ true
 is_digit_from b range = grind (arith, nat_tests)
 
-IsDecimal-decimal : (n : ℕ) → n < 2 ^ 32 → IsDecimal (decimal n) n
+pub IsDecimal-decimal : (n : ℕ) → n < 2 ^ 64 → IsDecimal (decimal n) n
 IsDecimal-decimal n fits =
-    let numeral = decimal_is_IsNumeral n (omega arith) in
+    let numeral = decimal_is_IsNumeral n fits in
     record {
       some = numeral.0.0;
       digits = All-weaker IsDigit (λ b. is_ascii_digit b ≡ true) is_digit_from (decimal n) (All-AllDigits (decimal n) numeral.0.1);
       value = sym numeral.1;
     }
 
-decimal_digits : (n : ℕ) → n < 2 ^ 32 → All IsDigit (decimal n)
-decimal_digits n fits = let numeral = decimal_is_IsNumeral n (omega arith) in All-AllDigits (decimal n) numeral.0.1
+pub decimal_digits : (n : ℕ) → n < 2 ^ 64 → All IsDigit (decimal n)
+decimal_digits n fits = let numeral = decimal_is_IsNumeral n fits in All-AllDigits (decimal n) numeral.0.1
 
 no_space_digits : (digits : List ℕ) → All IsDigit digits → HasNoSpaceFirst digits
 no_space_digits [] all rest e = cc
@@ -217,7 +217,7 @@ text_lines value message all every = (
 )
 
 printed_digits : (n : ℕ) → n < 2 ^ 32 → All IsPrinted (decimal n)
-printed_digits n fits = All-weaker IsDigit IsPrinted (λ b range. omega (arith, range.0)) (decimal n) (decimal_digits n fits)
+printed_digits n fits = All-weaker IsDigit IsPrinted (λ b range. omega (arith, range.0)) (decimal n) (decimal_digits n (omega arith))
 
 says_text : (status : ℕ) (message : List ℕ) → status < 2 ^ 32 → IsUtf8 message → HasNoSpaceFirst message
     → TrailersSay (trailers_text (record { status = status; message = message })) (record { status = status; message = message })
@@ -231,12 +231,12 @@ says_text status [] fits is none = record {
     line = codes "grpc-status:" ++ decimal status;
     back = [] ∷ [];
     whole = refl;
-    gives = status_gives (decimal status) (no_space_digits (decimal status) (decimal_digits status fits));
+    gives = status_gives (decimal status) (no_space_digits (decimal status) (decimal_digits status (omega arith)));
     first = LacksName-nil (codes "grpc-status");
   };
   message = None;
   message_is = no_message_lines (decimal status);
-  values = record { number = IsDecimal-decimal status fits; fits = fits; text = refl };
+  values = record { number = IsDecimal-decimal status (omega arith); fits = fits; text = refl };
 }
 says_text status (b ∷ message) fits is none =
     let text = b ∷ message in
@@ -249,7 +249,7 @@ says_text status (b ∷ message) fits is none =
         line = codes "grpc-status:" ++ decimal status;
         back = (codes "grpc-message:" ++ escaped text) ∷ [] ∷ [];
         whole = refl;
-        gives = status_gives (decimal status) (no_space_digits (decimal status) (decimal_digits status fits));
+        gives = status_gives (decimal status) (no_space_digits (decimal status) (decimal_digits status (omega arith)));
         first = LacksName-nil (codes "grpc-status");
       };
       message = Some (escaped text);
@@ -261,7 +261,7 @@ says_text status (b ∷ message) fits is none =
         gives = message_gives (escaped text) (no_space_escaped text none);
         first = no_message_status (decimal status);
       };
-      values = record { number = IsDecimal-decimal status fits; fits = fits; text = sym (message_back text is) };
+      values = record { number = IsDecimal-decimal status (omega arith); fits = fits; text = sym (message_back text is) };
     }
 
 pub written_trailers : WrittenTrailersAreRead

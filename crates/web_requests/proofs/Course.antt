@@ -8,6 +8,7 @@ use Rattle.web_head_reader.specs.declared.place.HeadPlace.TheVariants as head
 use Rattle.web_head_reader.specs.Steps.{HeadState, head_step}
 use Rattle.web_head_reader.specs.Steps as heads
 use Rattle.web_head_reader.proofs.Machine as heading
+use Rattle.web_head_reader.proofs.Comes.{open_at}
 use Rattle.web_frames.specs.declared.event.FrameEvent.{FrameEvent}
 use Rattle.web_frames.specs.declared.event.FrameEvent.TheVariants as event
 use Rattle.web_contents.specs.declared.fault.WebFault.{WebFault}
@@ -16,6 +17,7 @@ use Rattle.web_contents.specs.declared.place.ContentPlace.TheVariants as content
 use Rattle.web_contents.specs.Contents.{Content, place_of, content_step, content_events}
 use Rattle.web_contents.specs.Contents as contents
 use Rattle.web_contents.specs.Laws as content_laws
+use Rattle.web_contents.proofs.Parts as content_parts
 use Rattle.web_requests.specs.Machine.{RequestState, heading, within, whole, refused, fault_of_reading, message_after, state_at, state_of, heading_at, heading_of, request_step, after}
 
 pub after-append : (s : RequestState) (front back : List ℕ) → after s (front ++ back) ≡ after (after s front) back
@@ -46,15 +48,12 @@ after-refused fault (b ∷ bytes) = after-refused fault bytes
 
 -- ---- the head
 
-abbrev pub open_head : List ℕ → HeadState
-open_head held = record { place = head.Open; held = held }
-
-step-heading : (held : List ℕ) (b : ℕ) → request_step (heading held) b ≡ heading_of (head_step (open_head held) b)
+step-heading : (held : List ℕ) (b : ℕ) → request_step (heading held) b ≡ heading_of (head_step (open_at held) b)
 unfolding request_step
 step-heading held b = refl
 
 -- a head by its place
-at_open : (s : HeadState) → s.place ≡ head.Open → s ≡ open_head s.held
+at_open : (s : HeadState) → s.place ≡ head.Open → s ≡ open_at s.held
 at_open s e = ap (λ (p : HeadPlace). record { place = p; held = s.held }) e
 
 heading_of_open : (s : HeadState) → s.place ≡ head.Open → heading_of s ≡ heading s.held
@@ -62,18 +61,18 @@ heading_of_open s e = ap (λ (p : HeadPlace). heading_at p s.held) e
 
 -- bytes within the head
 abbrev GoesOn : List ℕ → List ℕ → Type 0
-GoesOn bytes held = (heads.after (open_head held) bytes).place ≡ head.Open
-    → after (heading held) bytes ≡ heading (heads.after (open_head held) bytes).held
+GoesOn bytes held = (heads.after (open_at held) bytes).place ≡ head.Open
+    → after (heading held) bytes ≡ heading (heads.after (open_at held) bytes).held
 
-tail : (held : List ℕ) (b : ℕ) (bytes : List ℕ) (s : HeadState) → head_step (open_head held) b ≡ s
-    → heads.after (open_head held) (b ∷ bytes) ≡ heads.after s bytes
-tail held b bytes s is = heading.after-cons (open_head held) b bytes ∙ ap (λ (t : HeadState). heads.after t bytes) is
+tail : (held : List ℕ) (b : ℕ) (bytes : List ℕ) (s : HeadState) → head_step (open_at held) b ≡ s
+    → heads.after (open_at held) (b ∷ bytes) ≡ heads.after s bytes
+tail held b bytes s is = heading.after-cons (open_at held) b bytes ∙ ap (λ (t : HeadState). heads.after t bytes) is
 
-goes_on : (held : List ℕ) (b : ℕ) (bytes : List ℕ) (s : HeadState) (place : HeadPlace) → head_step (open_head held) b ≡ s → s.place ≡ place
+goes_on : (held : List ℕ) (b : ℕ) (bytes : List ℕ) (s : HeadState) (place : HeadPlace) → head_step (open_at held) b ≡ s → s.place ≡ place
     → ((next : List ℕ) → GoesOn bytes next) → GoesOn (b ∷ bytes) held
 goes_on held b bytes s head.Open is p more e =
-    let here : head_step (open_head held) b ≡ open_head s.held = is ∙ at_open s p in
-    let rest = tail held b bytes (open_head s.held) here in
+    let here : head_step (open_at held) b ≡ open_at s.held = is ∙ at_open s p in
+    let rest = tail held b bytes (open_at s.held) here in
     after-cons (heading held) b bytes
     ∙ ap (λ (r : RequestState). after r bytes) (step-heading held b ∙ ap heading_of here)
     ∙ more s.held (ap (λ (t : HeadState). t.place) (sym rest) ∙ e)
@@ -86,22 +85,22 @@ goes_on held b bytes s (head.Refused fault) is p more e =
     = sym p ∙ ap (λ (t : HeadState). t.place) (sym (heading.after-Refused s bytes fault p) ∙ sym (tail held b bytes s is)) ∙ e in cc)
 
 pub after-heading : (bytes held : List ℕ) → GoesOn bytes held
-after-heading [] held e = after-nil (heading held) ∙ ap (λ (s : HeadState). heading s.held) (sym (heading.after-nil (open_head held)))
+after-heading [] held e = after-nil (heading held) ∙ ap (λ (s : HeadState). heading s.held) (sym (heading.after-nil (open_at held)))
 after-heading (b ∷ bytes) held e =
-    goes_on held b bytes (head_step (open_head held) b) (head_step (open_head held) b).place refl refl (after-heading bytes) e
+    goes_on held b bytes (head_step (open_at held) b) (head_step (open_at held) b).place refl refl (after-heading bytes) e
 
 -- bytes that make the head too long
 abbrev EndsRefused : List ℕ → List ℕ → HeadReadFault → Type 0
-EndsRefused bytes held fault = (heads.after (open_head held) bytes).place ≡ head.Refused fault
+EndsRefused bytes held fault = (heads.after (open_at held) bytes).place ≡ head.Refused fault
     → after (heading held) bytes ≡ refused (fault_of_reading fault)
 
 ends_refused : (held : List ℕ) (b : ℕ) (bytes : List ℕ) (fault : HeadReadFault) (s : HeadState) (place : HeadPlace)
-    → head_step (open_head held) b ≡ s → s.place ≡ place → ((next : List ℕ) → EndsRefused bytes next fault) → EndsRefused (b ∷ bytes) held fault
+    → head_step (open_at held) b ≡ s → s.place ≡ place → ((next : List ℕ) → EndsRefused bytes next fault) → EndsRefused (b ∷ bytes) held fault
 ends_refused held b bytes fault s head.Open is p rest e =
-    let here : head_step (open_head held) b ≡ open_head s.held = is ∙ at_open s p in
+    let here : head_step (open_at held) b ≡ open_at s.held = is ∙ at_open s p in
     after-cons (heading held) b bytes
     ∙ ap (λ (r : RequestState). after r bytes) (step-heading held b ∙ ap heading_of here)
-    ∙ rest s.held (ap (λ (t : HeadState). t.place) (sym (tail held b bytes (open_head s.held) here)) ∙ e)
+    ∙ rest s.held (ap (λ (t : HeadState). t.place) (sym (tail held b bytes (open_at s.held) here)) ∙ e)
 ends_refused held b bytes fault s head.Whole is p rest e =
     absurd (let other : head.Whole ≡ head.Refused fault
     = sym p ∙ ap (λ (t : HeadState). t.place) (sym (heading.after-Whole s bytes p) ∙ sym (tail held b bytes s is)) ∙ e in cc)
@@ -116,19 +115,19 @@ ends_refused held b bytes fault s (head.Refused found) is p rest e =
 
 pub after-heading-refused : (bytes held : List ℕ) (fault : HeadReadFault) → EndsRefused bytes held fault
 after-heading-refused [] held fault e =
-    absurd (let other : head.Open ≡ head.Refused fault = ap (λ (s : HeadState). s.place) (sym (heading.after-nil (open_head held))) ∙ e in cc)
+    absurd (let other : head.Open ≡ head.Refused fault = ap (λ (s : HeadState). s.place) (sym (heading.after-nil (open_at held))) ∙ e in cc)
 after-heading-refused (b ∷ bytes) held fault e =
-    ends_refused held b bytes fault (head_step (open_head held) b) (head_step (open_head held) b).place refl refl
+    ends_refused held b bytes fault (head_step (open_at held) b) (head_step (open_at held) b).place refl refl
     (λ next. after-heading-refused bytes next fault) e
 
 -- bytes of which the last one of the front ends the head or makes it too long, and then others
-pub after-head : (held front : List ℕ) (b : ℕ) (back : List ℕ) (s : HeadState) → (heads.after (open_head held) front).place ≡ head.Open
-    → heads.after (open_head held) (front ++ b ∷ []) ≡ s → after (heading held) (front ++ b ∷ back) ≡ after (heading_of s) back
+pub after-head : (held front : List ℕ) (b : ℕ) (back : List ℕ) (s : HeadState) → (heads.after (open_at held) front).place ≡ head.Open
+    → heads.after (open_at held) (front ++ b ∷ []) ≡ s → after (heading held) (front ++ b ∷ back) ≡ after (heading_of s) back
 after-head held front b back s e is =
-    let before = heads.after (open_head held) front in
-    let last : head_step (open_head before.held) b ≡ s
+    let before = heads.after (open_at held) front in
+    let last : head_step (open_at before.held) b ≡ s
     = ap (λ (t : HeadState). head_step t b) (sym (at_open before e)) ∙ sym (heading.after-nil (head_step before b))
-    ∙ sym (heading.after-cons before b []) ∙ sym (heading.after-append (open_head held) front (b ∷ [])) ∙ is in
+    ∙ sym (heading.after-cons before b []) ∙ sym (heading.after-append (open_at held) front (b ∷ [])) ∙ is in
     after-append (heading held) front (b ∷ back)
     ∙ ap (λ (r : RequestState). after r (b ∷ back)) (after-heading front held e)
     ∙ after-cons (heading before.held) b back
@@ -144,23 +143,6 @@ message_after-append message (event.Trailers trailers ∷ front) back = message_
 
 state_of_at : (path message : List ℕ) (c : Content) (place : ContentPlace) → place_of c ≡ place → state_of path message c ≡ state_at place path message c
 state_of_at path message c place e = ap (λ (p : ContentPlace). state_at p path message c) e
-
-content_after-cons : (c : Content) (b : ℕ) (bytes : List ℕ) → contents.after c (b ∷ bytes) ≡ contents.after (content_step c b) bytes
-unfolding contents.after
-content_after-cons c b bytes = refl
-
-content_events-cons : (c : Content) (b : ℕ) (bytes : List ℕ)
-    → contents.events_of c (b ∷ bytes) ≡ content_events c b ++ contents.events_of (content_step c b) bytes
-unfolding contents.events_of
-content_events-cons c b bytes = refl
-
-content_after-nil : (c : Content) → contents.after c [] ≡ c
-unfolding contents.after
-content_after-nil c = refl
-
-content_events-nil : (c : Content) → contents.events_of c [] ≡ []
-unfolding contents.events_of
-content_events-nil c = refl
 
 step-within : (path message : List ℕ) (c : Content) (b : ℕ)
     → request_step (within path message c) b ≡ state_of path (message_after message (content_events c b)) (content_step c b)
@@ -200,16 +182,16 @@ one_more laws b bytes path message c content.Open e more =
     ∙ ap (λ (r : RequestState). after r bytes) (step-within path message c b)
     ∙ more
     ∙ ap (λ (m : List ℕ). state_of path m (contents.after next bytes)) (sym (message_after-append message told rest))
-    ∙ ap (λ (all : List FrameEvent). state_of path (message_after message all) (contents.after next bytes)) (sym (content_events-cons c b bytes))
-    ∙ ap (λ (d : Content). state_of path (message_after message (contents.events_of c (b ∷ bytes))) d) (sym (content_after-cons c b bytes))
+    ∙ ap (λ (all : List FrameEvent). state_of path (message_after message all) (contents.after next bytes)) (sym (content_parts.events_of-cons c b bytes))
+    ∙ ap (λ (d : Content). state_of path (message_after message (contents.events_of c (b ∷ bytes))) d) (sym (content_parts.after-cons c b bytes))
 one_more laws b bytes path message c content.Over e more = stays_over laws (b ∷ bytes) path message c e
 one_more laws b bytes path message c (content.Refused fault) e more = stays_refused laws (b ∷ bytes) path message c fault e
 
 pub after-body : (laws : content_laws.PiecesJoin) (bytes path message : List ℕ) (c : Content) → AreBody bytes path message c
 after-body laws [] path message c =
     after-nil (state_of path message c)
-    ∙ sym (ap (λ (told : List FrameEvent). state_of path (message_after message told) (contents.after c [])) (content_events-nil c)
-    ∙ ap (λ (d : Content). state_of path message d) (content_after-nil c))
+    ∙ sym (ap (λ (told : List FrameEvent). state_of path (message_after message told) (contents.after c [])) (content_parts.events_of-nil c)
+    ∙ ap (λ (d : Content). state_of path message d) (content_parts.after-nil c))
 after-body laws (b ∷ bytes) path message c =
     one_more laws b bytes path message c (place_of c) refl
     (after-body laws bytes path (message_after message (content_events c b)) (content_step c b))

@@ -1,5 +1,5 @@
 -- The contents of a request stay within their bounds.
-use Rattle.std.proofs.Common.{◌≡◌, ◌≢◌, ℕ, eqb, ltb, ◌+◌, ◌-◌, ◌*◌, ◌<◌, ◌≤◌, Bool, cond, true, false, inl, inr, List, [], ◌∷◌, ◌++◌, length, refl, sym, ap, ◌∙◌, subst, arith, Option, Some, None, length-append, length-drop}
+use Rattle.std.proofs.Common.{◌≡◌, ℕ, eqb, ltb, ◌+◌, ◌-◌, ◌*◌, ◌<◌, ◌≤◌, Bool, cond, true, false, inl, inr, List, [], ◌∷◌, ◌++◌, length, refl, sym, ap, ◌∙◌, subst, arith, Option, Some, None, length-append, length-drop}
 use Rattle.std.proofs.lemmas.Bool.{cond_both, cases_lt, ltb-true, ltb-false}
 use Rattle.web_heads.specs.declared.body.BodyKind.{BodyKind}
 use Rattle.web_heads.specs.declared.body.BodyKind.TheVariants as kind
@@ -14,7 +14,6 @@ use Rattle.web_bodies.specs.Steps.{length_place, data_place, size_place, line_pl
 use Rattle.web_bodies.specs.Steps as bodies
 use Rattle.web_frames.specs.declared.limits.Side.{Side}
 use Rattle.web_frames.specs.declared.limits.Side.TheVariants.{Request}
-use Rattle.web_frames.specs.declared.fault.FrameFault.{FrameFault}
 use Rattle.web_frames.specs.declared.event.FrameEvent.TheVariants as event
 use Rattle.web_frames.specs.declared.state.FramePlace.{FramePlace}
 use Rattle.web_frames.specs.declared.state.FramePlace.TheVariants as frame
@@ -26,14 +25,12 @@ use Rattle.web_contents.specs.declared.place.ContentPlace.{ContentPlace}
 use Rattle.web_contents.specs.declared.place.ContentPlace.TheVariants as content
 use Rattle.web_contents.specs.Contents.{Content, place_of, place_by, content_step}
 use Rattle.web_contents.specs.Contents as contents
-use Rattle.web_contents.specs.Faults.{fault_of_frames}
 use Rattle.web_contents.specs.Laws as content_laws
+use Rattle.web_contents.proofs.Parts as content_parts
+use Rattle.web_contents.proofs.Places.{IsGood, open-place}
 use Rattle.web_requests.specs.Bounds.{payload_at, payload_so_far, IsShortAt, IsBoundedAt, IsWithinBounds, IsBounded}
 
 -- ---- one byte of payload
-
-abbrev NotRefused : FramePlace → Type 0
-NotRefused place = (fault : FrameFault) → place ≢ frame.Refused fault
 
 record FrameGrows (old new : FrameState) : Type 0 where
   side : new.side ≡ Request
@@ -51,7 +48,7 @@ short_held held e = elim (cases_lt (length held) 5) [
 ]
 
 grows_open : (held : List ℕ) (b : ℕ) (settled : Settled) → settled_by Request (held ++ b ∷ []) ≡ settled → length held + 1 ≤ 67108869
-    → NotRefused (frame_step (open_at Request held) b).place → FrameGrows (open_at Request held) (frame_step (open_at Request held) b)
+    → IsGood (frame_step (open_at Request held) b).place → FrameGrows (open_at Request held) (frame_step (open_at Request held) b)
 grows_open held b more e short goes_on =
     let longer = length-append held (b ∷ []) in
     rw (frame_step-settled Request held b more e) (record { side = refl; short = short_held (held ++ b ∷ []) e; longer = omega arith })
@@ -65,7 +62,7 @@ grows_open held b (faulty fault) e short goes_on =
 abbrev at_place : FramePlace → List ℕ → FrameState
 at_place place held = record { side = Request; place = place; held = held }
 
-grows_at : (place : FramePlace) (held : List ℕ) (b : ℕ) → IsShortAt place held → NotRefused (frame_step (at_place place held) b).place
+grows_at : (place : FramePlace) (held : List ℕ) (b : ℕ) → IsShortAt place held → IsGood (frame_step (at_place place held) b).place
     → FrameGrows (at_place place held) (frame_step (at_place place held) b)
 grows_at frame.Open held b short goes_on = grows_open held b (settled_by Request (held ++ b ∷ [])) refl short goes_on
 grows_at frame.Whole held b short goes_on =
@@ -168,13 +165,6 @@ byte_bounded (body.Refused fault) count line b before payload fits short p =
 
 -- ---- one byte of contents
 
-not_refused_by : (c : Content) → place_of c ≡ content.Open → NotRefused c.frames.place
-unfolding place_of
-not_refused_by c e fault is =
-    let other : content.Refused (fault_of_frames fault) ≡ content.Open
-    = sym (ap (λ (p : FramePlace). place_by p c.body.place c.frames) is) ∙ e in
-    cc
-
 frames_silent : (body : Body) (s : FrameState) (b : ℕ) → awaits_payload body.place ≡ false → frames.after s (emitted body b) ≡ s
 unfolding emitted
 frames_silent body s b e = ap (λ (t : Bool). frames.after s (cond t (b ∷ []) [])) e ∙ after-nil s
@@ -205,11 +195,11 @@ fed_within place count line s b fed x grows =
     ((λ _. grows.longer), (λ other. absurd (let e : true ≡ false = sym fed ∙ other in cc))) in
     rw next (record { side = grows.side; short = grows.short; line_fits = grown.line_fits; bounded = grown.bounded })
 
-grows : (s : FrameState) (b : ℕ) → s.side ≡ Request → IsShortAt s.place s.held → NotRefused (frame_step s b).place → FrameGrows s (frame_step s b)
+grows : (s : FrameState) (b : ℕ) → s.side ≡ Request → IsShortAt s.place s.held → IsGood (frame_step s b).place → FrameGrows s (frame_step s b)
 grows s b side short goes_on =
     let same : s ≡ at_place s.place s.held = ap (λ (x : Side). record { side = x; place = s.place; held = s.held }) side in
     let P : FrameState → Type 0 = λ t. FrameGrows t (frame_step t b) in
-    subst P (sym same) (grows_at s.place s.held b short (subst (λ (t : FrameState). NotRefused (frame_step t b).place) same goes_on))
+    subst P (sym same) (grows_at s.place s.held b short (subst (λ (t : FrameState). IsGood (frame_step t b).place) same goes_on))
 
 content_frames : (c : Content) (b : ℕ) → (content_step c b).frames ≡ frames.after c.frames (emitted c.body b)
 unfolding content_step
@@ -221,34 +211,22 @@ step_within c b false silent x e = silent_within c.body.place c.body.count c.bod
 step_within c b true fed x e =
     let next = content_frames c b ∙ frames_fed c.body c.frames b fed in
     fed_within c.body.place c.body.count c.body.line c.frames b fed x
-    (grows c.frames b x.side x.short (subst (λ (s : FrameState). NotRefused s.place) next (not_refused_by (content_step c b) e)))
-
-content_after-one : (c : Content) (b : ℕ) → contents.after c (b ∷ []) ≡ content_step c b
-unfolding contents.after
-content_after-one c b = refl
+    (grows c.frames b x.side x.short (subst (λ (s : FrameState). IsGood s.place) next (open-place (content_step c b) e).0))
 
 step_bounded_at : (laws : content_laws.PiecesJoin) (c : Content) (b : ℕ) (place : ContentPlace) → place_of c ≡ place → IsBounded c
     → IsBounded (content_step c b)
 step_bounded_at laws c b content.Open e x =
     record { while_open = step_within c b (awaits_payload c.body.place) refl (x.while_open e) }
-step_bounded_at laws c b content.Over e x = rw (← (content_after-one c b), (laws.ended c (b ∷ []) e).0) x
+step_bounded_at laws c b content.Over e x = rw (← (content_parts.after-one c b), (laws.ended c (b ∷ []) e).0) x
 step_bounded_at laws c b (content.Refused fault) e x = record {
   while_open = λ is. absurd (let other : content.Refused fault ≡ content.Open
-      = sym (laws.refused c (b ∷ []) fault e).0 ∙ ap place_of (content_after-one c b) ∙ is in cc);
+      = sym (laws.refused c (b ∷ []) fault e).0 ∙ ap place_of (content_parts.after-one c b) ∙ is in cc);
 }
 
-content_after-cons : (c : Content) (b : ℕ) (bytes : List ℕ) → contents.after c (b ∷ bytes) ≡ contents.after (content_step c b) bytes
-unfolding contents.after
-content_after-cons c b bytes = refl
-
-content_after-nil : (c : Content) → contents.after c [] ≡ c
-unfolding contents.after
-content_after-nil c = refl
-
 pub after-bounded : (laws : content_laws.PiecesJoin) (bytes : List ℕ) (c : Content) → IsBounded c → IsBounded (contents.after c bytes)
-after-bounded laws [] c x = rw (content_after-nil c) x
+after-bounded laws [] c x = rw (content_parts.after-nil c) x
 after-bounded laws (b ∷ bytes) c x =
-    rw (content_after-cons c b bytes) (after-bounded laws bytes (content_step c b) (step_bounded_at laws c b (place_of c) refl x))
+    rw (content_parts.after-cons c b bytes) (after-bounded laws bytes (content_step c b) (step_bounded_at laws c b (place_of c) refl x))
 
 -- ---- the beginning
 

@@ -11,7 +11,7 @@ use Rattle.web_head_reader.specs.Steps.{HeadState}
 use Rattle.web_head_reader.specs.Steps as heads
 use Rattle.web_head_reader.specs.Standard as head_words
 use Rattle.web_head_reader.specs.Calls as head_calls
-use Rattle.web_head_reader.proofs.Comes.{Comes, goes_on, ends, is_long, comes}
+use Rattle.web_head_reader.proofs.Comes.{open_at, Comes, goes_on, ends, is_long, comes}
 use Rattle.web_head_reader.proofs.Machine as head_machine
 use Rattle.web_bodies.proofs.TrailerRuns.{last_of}
 use Rattle.web_contents.specs.declared.fault.WebFault.{WebFault}
@@ -21,13 +21,13 @@ use Rattle.web_requests.specs.declared.stage.Stage.{Stage}
 use Rattle.web_requests.specs.declared.stage.Stage.TheVariants as stage
 use Rattle.web_requests.specs.Machine.{RequestState, heading, refused, fault_of_reading, after_head, heading_at, after}
 use Rattle.web_requests.specs.Calls.{Takes, is_open, IsFaulty, Refuses, is_heading, BeginsBodyWith, view_of, is_body, HoldsRequest}
-use Rattle.web_requests.proofs.Course.{open_head, after-refused, after-heading, after-heading-refused, after-head}
+use Rattle.web_requests.proofs.Course.{after-refused, after-heading, after-heading-refused, after-head}
 use Rattle.web_requests.proofs.Pieces.{state_at-past}
 
 -- a reader within the head
 pub record IsInHead (at : Stage) (h : HeadState) (s : RequestState) : Type 0 where
   pub stage_is : at ≡ stage.Head
-  pub head_is : h ≡ open_head h.held
+  pub head_is : h ≡ open_at h.held
   pub begun : head_words.IsBegun h.held
   pub state_is : s ≡ heading h.held
 
@@ -56,8 +56,8 @@ pub record GoesOn (piece : List ℕ) (new : HeadState) (taken : ℕ) : Type 0 wh
   pub all : taken ≡ length piece
 
 -- after bytes, by what they lead to
-reached : (h new : HeadState) (bytes : List ℕ) (next : HeadState) → h ≡ open_head h.held → new ≡ heads.after h bytes
-    → heads.after (open_head h.held) bytes ≡ next → new ≡ next
+reached : (h new : HeadState) (bytes : List ℕ) (next : HeadState) → h ≡ open_at h.held → new ≡ heads.after h bytes
+    → heads.after (open_at h.held) bytes ≡ next → new ≡ next
 reached h new bytes next e is leads = is ∙ ap (λ (s : HeadState). heads.after s bytes) e ∙ leads
 
 pub goes_on_in_head : (at : Stage) (h new : HeadState) (s : RequestState) (piece : List ℕ) (taken : ℕ) → IsInHead at h s
@@ -66,7 +66,7 @@ goes_on_in_head at h new s piece taken x takes not_whole = go (comes h.held (tak
   where
     go : Comes h.held (take taken piece) → (taken ≡ length piece) ⊎ (new.place ≡ head.Whole) → GoesOn piece new taken
     go (goes_on begun leads) (inl all) =
-        let is = reached h new (take taken piece) (open_head (h.held ++ take taken piece)) x.head_is takes.state leads in
+        let is = reached h new (take taken piece) (open_at (h.held ++ take taken piece)) x.head_is takes.state leads in
         record {
           place_is = ap (λ (t : HeadState). t.place) is;
           begun = subst head_words.IsBegun (ap (λ (t : HeadState). t.held) (sym is)) begun;
@@ -91,7 +91,7 @@ pub takes_head : (at : Stage) (h new : HeadState) (path message : List ℕ) (c :
     → IsInHead at h s → head_calls.Takes h piece new taken → GoesOn piece new taken → Takes s piece false (view_of at new path message c)
 takes_head at h new path message c s piece taken x takes goes =
     let all : take taken piece ≡ piece = ap (λ (n : ℕ). take n piece) goes.all ∙ take_all (length piece) piece (omega arith) in
-    let is : new ≡ heads.after (open_head h.held) piece
+    let is : new ≡ heads.after (open_at h.held) piece
     = takes.state ∙ ap (heads.after h) all ∙ ap (λ (t : HeadState). heads.after t piece) x.head_is in
     let state : heading new.held ≡ after s piece
     = ap (λ (t : HeadState). heading t.held) is
@@ -109,7 +109,7 @@ whole_short at h new s piece taken x takes is_whole = go (comes h.held (take tak
     go : Comes h.held (take taken piece) → length new.held ≤ 16384
     go (goes_on begun leads) =
         absurd (let other : head.Open ≡ head.Whole = sym (ap (λ (t : HeadState). t.place)
-        (reached h new (take taken piece) (open_head (h.held ++ take taken piece)) x.head_is takes.state leads)) ∙ is_whole in cc)
+        (reached h new (take taken piece) (open_at (h.held ++ take taken piece)) x.head_is takes.state leads)) ∙ is_whole in cc)
     go (ends found has leads) =
         let is = reached h new (take taken piece) (record { place = head.Whole; held = found }) x.head_is takes.state leads in
         subst (λ (t : HeadState). length t.held ≤ 16384) (sym is) has.is_head.short
@@ -142,11 +142,11 @@ body_joined at h new s piece taken x takes is_whole =
     let last = last_of (take taken piece) (omega arith) in
     let sum = ap length last.bytes_are ∙ length-append last.front (last.last ∷ []) in
     let first = front_of piece last.front last.last taken fits last.bytes_are in
-    let before : (heads.after (open_head h.held) last.front).place ≡ head.Open
+    let before : (heads.after (open_at h.held) last.front).place ≡ head.Open
     = ap (λ (t : HeadState). (heads.after t last.front).place) (sym x.head_is)
     ∙ ap (λ (bytes : List ℕ). (heads.after h bytes).place) (sym first) ∙ takes.first (length last.front) (omega arith) in
-    let there : heads.after (open_head h.held) (last.front ++ last.last ∷ []) ≡ new
-    = ap (heads.after (open_head h.held)) (sym last.bytes_are)
+    let there : heads.after (open_at h.held) (last.front ++ last.last ∷ []) ≡ new
+    = ap (heads.after (open_at h.held)) (sym last.bytes_are)
     ∙ ap (λ (t : HeadState). heads.after t (take taken piece)) (sym x.head_is) ∙ sym takes.state in
     let parts : last.front ++ last.last ∷ drop taken piece ≡ piece
     = sym (append_assoc last.front (last.last ∷ []) (drop taken piece))
@@ -185,7 +185,7 @@ bad_head_refuses s piece rest expected OutOfMemory joined before e = record { re
 pub long_head_refuses : (at : Stage) (h new : HeadState) (s : RequestState) (piece : List ℕ) (fault : HeadReadFault) → IsInHead at h s
     → head_calls.Refuses h piece new fault → Refuses s piece (fault_of_reading fault) (refused (fault_of_reading fault))
 long_head_refuses at h new s piece long.HeadTooLong x refuses =
-    let place : (heads.after (open_head h.held) piece).place ≡ head.Refused long.HeadTooLong
+    let place : (heads.after (open_at h.held) piece).place ≡ head.Refused long.HeadTooLong
     = ap (λ (t : HeadState). (heads.after t piece).place) (sym x.head_is) ∙ ap (λ (t : HeadState). t.place) (sym refuses.state) ∙ refuses.refused in
     record {
       state = sym (ap (λ (r : RequestState). after r piece) x.state_is ∙ after-heading-refused piece h.held long.HeadTooLong place);

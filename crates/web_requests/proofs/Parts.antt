@@ -1,7 +1,7 @@
 -- What the parts of a call take and leave.
 use Rattle.std.proofs.Common.{◌≡◌, ℕ, zero, suc, ◌+◌, ◌<◌, ◌≤◌, inl, true, List, [], ◌∷◌, length, take, drop, refl, sym, ap, ◌∙◌, subst, arith, Option, Some, None, Ok, Err, length-take-le, take-append-drop}
 use Rattle.std.proofs.lemmas.Bool.{false≢true, both_ways}
-use Rattle.std.proofs.lemmas.List.{take-append-le}
+use Rattle.std.proofs.lemmas.List.{take-take}
 use Rattle.web_heads.specs.declared.fault.HeadFault.{HeadFault}
 use Rattle.web_heads.specs.declared.fault.HeadFault.TheVariants as head_fault
 use Rattle.web_heads.specs.declared.request.RequestHead.{RequestHead}
@@ -23,6 +23,7 @@ use Rattle.web_contents.specs.Contents as contents
 use Rattle.web_contents.specs.Faults.{fault_of_head}
 use Rattle.web_contents.specs.Calls as content_calls
 use Rattle.web_contents.specs.Laws as content_laws
+use Rattle.web_contents.proofs.Parts as content_parts
 use Rattle.web_contents.proofs.Read as content_proofs
 use Rattle.web_requests.specs.declared.stage.Stage.{Stage}
 use Rattle.web_requests.specs.declared.stage.Stage.TheVariants as stage
@@ -77,19 +78,6 @@ Refuses_at at h path message c s piece fault e x =
 
 -- ---- bytes of the body
 
-take_fewer : (fewer count : ℕ) (piece : List ℕ) → fewer ≤ count → count ≤ length piece → take fewer (take count piece) ≡ take fewer piece
-take_fewer fewer count piece less fits =
-    let all = length-take-le count piece fits in
-    sym (take-append-le fewer (take count piece) (drop count piece) (omega arith)) ∙ ap (take fewer) (take-append-drop count piece)
-
-nothing_told : (c : Content) → contents.events_of c [] ≡ []
-unfolding contents.events_of
-nothing_told c = refl
-
-nothing_done : (c : Content) → contents.after c [] ≡ c
-unfolding contents.after
-nothing_done c = refl
-
 -- so many bytes lead to these contents, and tell this
 part_taken : (s : RequestState) (path message : List ℕ) (old new : Content) (piece : List ℕ) (most count : ℕ) (told : List FrameEvent)
     → s ≡ state_of path message old → most ≤ length piece → content_calls.Takes old (take most piece) count new → 0 < count
@@ -99,7 +87,7 @@ part_taken s path message old new piece most count told s_is fits x some told_is
     let all = length-take-le most piece fits in
     let within_part = x.within in
     let part = take count (take most piece) in
-    let same : part ≡ take count piece = take_fewer count most piece (omega arith) fits in
+    let same : part ≡ take count piece = take-take count most piece (omega arith) in
     record {
       some = some;
       fits = omega arith;
@@ -112,13 +100,13 @@ part_taken s path message old new piece most count told s_is fits x some told_is
     }
 
 some_told : (c : Content) (count : ℕ) (piece : List ℕ) (first : FrameEvent) → contents.events_of c (take count piece) ≡ first ∷ [] → 0 < count
-some_told c zero piece first e = absurd (let none : first ∷ [] ≡ [] = sym e ∙ nothing_told c in cc)
+some_told c zero piece first e = absurd (let none : first ∷ [] ≡ [] = sym e ∙ content_parts.events_of-nil c in cc)
 some_told c (suc count) piece first e = omega arith
 
 some_moved : (old new : Content) (count : ℕ) (piece : List ℕ) → new ≡ contents.after old (take count piece) → place_of old ≡ content.Open
     → place_of new ≡ content.Over → 0 < count
 some_moved old new zero piece e before now =
-    absurd (let other : content.Open ≡ content.Over = sym before ∙ ap place_of (sym (e ∙ nothing_done old)) ∙ now in cc)
+    absurd (let other : content.Open ≡ content.Over = sym before ∙ ap place_of (sym (e ∙ content_parts.after-nil old)) ∙ now in cc)
 some_moved old new (suc count) piece e before now = omega arith
 
 pub message_taken : (s : RequestState) (path message : List ℕ) (old new : Content) (piece : List ℕ) (most count : ℕ) (payload : List ℕ)

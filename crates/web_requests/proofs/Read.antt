@@ -1,26 +1,26 @@
 -- What the machine reads is what the standard says of the bytes.
 use Rattle.std.proofs.Common.{◌≡◌, ℕ, ◌<◌, ◌≤◌, ◌⊎◌, inl, inr, List, [], ◌∷◌, ◌++◌, length, fold, take, drop, refl, sym, ap, ◌∙◌, subst, append_assoc, append-nil, length-append, Option, Some, None, Result, Ok, Err, arith}
-use Rattle.std.specs.List.{All, concat}
+use Rattle.std.specs.List.{concat}
 use Rattle.std.proofs.lemmas.Bool.{cases_lt}
 use Rattle.std.proofs.lemmas.List.{take_at, drop_at, take-append-le, drop-append-le, take-append-drop}
-use Rattle.std.proofs.lemmas.List.Elements.{All-take, All-drop}
 use Rattle.web_heads.specs.declared.fault.HeadFault.{HeadFault}
 use Rattle.web_heads.specs.declared.request.RequestHead.{RequestHead}
 use Rattle.web_heads.specs.Requests.{request_head}
 use Rattle.web_heads.specs.Standard.{RequestSays}
 use Rattle.web_heads.proofs.RequestsSaid.{sound, only}
 use Rattle.web_head_reader.specs.declared.fault.HeadReadFault.TheVariants as long
-use Rattle.web_head_reader.specs.declared.place.HeadPlace.TheVariants as head
 use Rattle.web_head_reader.specs.Steps.{HeadState}
 use Rattle.web_head_reader.specs.Steps as heads
 use Rattle.web_head_reader.specs.Standard.{IsHead, HasHead, IsTooLong, HasTooLong}
 use Rattle.web_head_reader.specs.Standard as head_words
+use Rattle.web_head_reader.proofs.Comes.{whole_at}
 use Rattle.web_head_reader.proofs.Read.{heads_are_read, heads_are_one, ends_are_first}
 use Rattle.web_bodies.proofs.TrailerRuns.{last_of}
 use Rattle.web_frames.specs.declared.limits.Side.TheVariants.{Request}
 use Rattle.web_frames.specs.declared.status.Trailers.{Trailers}
 use Rattle.web_frames.specs.declared.event.FrameEvent.{FrameEvent}
 use Rattle.web_frames.specs.Standard.{IsBytes, AreTrailers}
+use Rattle.web_frames.proofs.ReadsLemmas.{All_back, All_front}
 use Rattle.web_contents.specs.declared.fault.WebFault.{WebFault}
 use Rattle.web_contents.specs.declared.fault.WebFault.TheVariants.{HeadTooLong}
 use Rattle.web_contents.specs.declared.place.ContentPlace.{ContentPlace}
@@ -76,18 +76,7 @@ shorter front tail head rest e fits =
     go [] is some = absurd (omega arith)
     go (next ∷ others) is some = record { next = next; others = others; head_is = is }
 
-IsBytes-rest : (bytes head rest : List ℕ) → bytes ≡ head ++ rest → IsBytes bytes → IsBytes rest
-IsBytes-rest bytes head rest e x =
-    subst (All (λ b. b < 256)) (ap (drop (length head)) e ∙ drop_at head rest (length head) refl) (All-drop (λ b. b < 256) (length head) bytes x)
-
-IsBytes-front : (bytes head rest : List ℕ) → bytes ≡ head ++ rest → IsBytes bytes → IsBytes head
-IsBytes-front bytes head rest e x =
-    subst (All (λ b. b < 256)) (ap (take (length head)) e ∙ take_at head rest (length head) refl) (All-take (λ b. b < 256) (length head) bytes x)
-
 -- ---- the head
-
-abbrev whole_head : List ℕ → HeadState
-whole_head bytes = record { place = head.Whole; held = bytes }
 
 -- a head ends with its last byte
 settled_head : (front : List ℕ) (b : ℕ) (rest : List ℕ) (s : HeadState) → head_words.IsBegun front → heads.after heads.begin (front ++ b ∷ []) ≡ s
@@ -107,7 +96,7 @@ last_settles settled rest s some begun is =
 pub after_whole_head : (bytes rest : List ℕ) → IsHead bytes → after begin (bytes ++ rest) ≡ after (after_head (length bytes) (request_head bytes)) rest
 after_whole_head bytes rest x =
     let stop = x.ends.stop_is in
-    last_settles bytes rest (whole_head bytes) (omega arith)
+    last_settles bytes rest (whole_at bytes) (omega arith)
     (λ front b back e. ends_are_first.whole front b back (subst IsHead e x))
     ((heads_are_read.whole bytes bytes).0 (record { rest = []; bytes_are = sym (append-nil bytes); is_head = x }))
 
@@ -150,7 +139,7 @@ at_place known bytes said rest x place e =
 -- ---- from the standard to the machine
 
 IsBytes-said : (bytes : List ℕ) (said : RequestHead) (rest : List ℕ) → HasRequestHead bytes said rest → IsBytes bytes → IsBytes rest
-IsBytes-said bytes said rest x = IsBytes-rest bytes x.head rest x.bytes_are
+IsBytes-said bytes said rest x all = All_back x.head rest (subst IsBytes x.bytes_are all)
 
 begun_read : (known : Known) (bytes : List ℕ) → IsBytes bytes → IsBegun bytes → request_in bytes ≡ more
 begun_read known bytes all (in_head x) = after_begun_head bytes x
@@ -185,7 +174,7 @@ fault_settled known bytes settled rest fault all e (bad_body said part messages 
     = record { settled = part; rest = rest; bytes_are = refl; is_fault = faulty_part } in
     at_place known bytes said (part ++ rest) said_here (content.Refused fault)
     ((known.read.refused Request said.body (length x.head) (part ++ rest) messages trailers fault
-    (IsBytes-rest bytes x.head (part ++ rest) parts all)).0 has).0
+    (All_back x.head (part ++ rest) (subst IsBytes parts all))).0 has).0
 
 refused_read : (known : Known) (bytes : List ℕ) (fault : WebFault) → IsBytes bytes → HasFault bytes fault → request_in bytes ≡ faulty fault
 refused_read known bytes fault all x = fault_settled known bytes x.settled x.after fault all x.bytes_are x.is_fault
@@ -343,7 +332,7 @@ in_rest : (known : Known) (front : List ℕ) (b : ℕ) (back : List ℕ) (said :
     → IsContentFault Request said.body (length x.head) rest messages trailers fault → Longer front (b ∷ back) x.head rest → IsBegun front
 in_rest known front b back said rest messages trailers fault x all faulty_part part =
     let is_fault = subst (λ (r : List ℕ). IsContentFault Request said.body (length x.head) r messages trailers fault) part.rest_is faulty_part in
-    let here = IsBytes-rest front x.head part.between part.front_is (IsBytes-front (front ++ b ∷ back) front (b ∷ back) refl all) in
+    let here = All_back x.head part.between (subst IsBytes part.front_is (All_front front (b ∷ back) all)) in
     let begins = known.first.refused Request said.body (length x.head) part.between b back messages trailers fault here is_fault in
     in_body said part.between begins.0 begins.1
     (record { head = x.head; bytes_are = part.front_is; is_head = x.is_head; says = x.says }) begins.2

@@ -13,13 +13,14 @@ use Rattle.web_bodies.proofs.Runs as body_runs
 use Rattle.web_bodies.proofs.Read as bodies_read
 use Rattle.web_frames.specs.declared.limits.Side.TheVariants.{Response}
 use Rattle.web_frames.specs.declared.status.Trailers.{Trailers}
+use Rattle.web_frames.proofs.LawLemmas.{longer_front}
 use Rattle.web_contents.specs.declared.fault.WebFault.{WebFault}
 use Rattle.web_contents.specs.declared.place.ContentPlace.TheVariants.{Open}
 use Rattle.web_contents.specs.Contents.{Content, place_of}
 use Rattle.web_contents.specs.Contents as contents
 use Rattle.web_contents.proofs.Parts.{after-parts}
 use Rattle.web_contents.proofs.Places.{place-open}
-use Rattle.web_contents.proofs.Ends.{longer_front, open_before, body_open, before_fault}
+use Rattle.web_contents.proofs.Ends.{open_before, body_open, before_fault}
 use Rattle.web_contents.proofs.Read.{Fronts, same, shorter, longer, fronts}
 use Rattle.web_responses.specs.declared.event.WebEvent.{WebEvent}
 use Rattle.web_responses.specs.Answers.{begin_body, opened_body, begin, after, standing}
@@ -29,9 +30,9 @@ use Rattle.web_responses.proofs.Told.{bare_at, empty_good, opening_is, right_ope
 
 -- ---- bodies that may have no payload
 
-nothing_left : (front more : List ℕ) → front ++ more ≡ [] → front ≡ []
-nothing_left [] more e = refl
-nothing_left (b ∷ front) more e = absurd (cc)
+pub no_front : {A : Type 0} (front back : List A) → front ++ back ≡ [] → front ≡ []
+no_front [] back e = refl
+no_front (x ∷ front) back e = absurd (cc)
 
 -- a body that goes on and has no payload
 bare_open : (trailers : Trailers) (kind : BodyKind) (at : ℕ) (front : List ℕ) → bodies.payload_after (bodies.begin kind at) front ≡ []
@@ -42,7 +43,7 @@ bare_open trailers kind at front none going =
 
 none_before : (body : Body) (front more : List ℕ) → bodies.payload_after body (front ++ more) ≡ [] → bodies.payload_after body front ≡ []
 none_before body front more none =
-    nothing_left (bodies.payload_after body front) (bodies.payload_after (bodies.after body front) more) (sym (body_runs.payload_after-append body front more) ∙ none)
+    no_front (bodies.payload_after body front) (bodies.payload_after (bodies.after body front) more) (sym (body_runs.payload_after-append body front more) ∙ none)
 
 before_bare : (trailers : Trailers) (kind : BodyKind) (at : ℕ) (front : List ℕ) (b : ℕ) (back : List ℕ) (fault : WebFault) → IsBareFault kind at (front ++ b ∷ back) fault
     → place_of (contents.after (begin_body (Some trailers) kind at) front) ≡ Open

@@ -1,5 +1,5 @@
 -- Calls one after another.
-use Rattle.std.proofs.Common.{◌≡◌, ℕ, List, [], ◌∷◌, ◌++◌, take, refl, sym, ap, ◌∙◌, append_assoc, append-nil}
+use Rattle.std.proofs.Common.{◌≡◌, ℕ, List, [], ◌∷◌, ◌++◌, take, sym, ap, ◌∙◌, append_assoc, append-nil}
 use Rattle.std.specs.Option.{option_to_list}
 use Rattle.web_contents.specs.declared.fault.WebFault.{WebFault}
 use Rattle.web_contents.specs.declared.place.ContentPlace.TheVariants.{Refused}
@@ -7,6 +7,7 @@ use Rattle.web_responses.specs.declared.event.WebEvent.{WebEvent}
 use Rattle.web_responses.specs.Answers.{AnswerState, after, events_of, standing, finish, answer_in}
 use Rattle.web_responses.specs.Calls.{Reader, begin, Settles}
 use Rattle.web_responses.specs.Laws.{Call, Lead, taken, told_by, AnswersAreFed}
+use Rattle.web_responses.proofs.Ends.{no_front}
 use Rattle.web_responses.proofs.Runs.{after-nil, events_of-nil, after-append, events_of-append}
 
 -- what calls leave and tell
@@ -41,10 +42,6 @@ fed_told : (calls : List Call) (new : Reader) → Lead begin calls new
 unfolding answer_in
 fed_told calls new leads = let x = tells begin calls new leads in (sym x.events, ap standing x.state, ap finish x.state)
 
-nothing_due : (due told : List WebEvent) → due ++ told ≡ [] → due ≡ []
-nothing_due [] told e = refl
-nothing_due (x ∷ due) told e = absurd (cc)
-
 nothing_told : (due told : List WebEvent) → due ++ told ≡ [] → told ≡ []
 nothing_told [] told e = e
 nothing_told (x ∷ due) told e = absurd (cc)
@@ -54,7 +51,7 @@ fed_refused : (calls : List Call) (now new : Reader) (piece : List ℕ) (fault :
 unfolding answer_in
 fed_refused calls now new piece fault leads settles =
     let x = tells begin calls now leads in
-    let none = nothing_due now.due (events_of now.state piece) settles.silent in
+    let none = no_front now.due (events_of now.state piece) settles.silent in
     let silent = nothing_told now.due (events_of now.state piece) settles.silent in (
       ap standing (after-append begin.state (taken calls) piece ∙ ap (λ (s : AnswerState). after s piece) (sym x.state)) ∙ settles.settled,
       events_of-append begin.state (taken calls) piece

@@ -1,8 +1,7 @@
 -- One call of a reader of answers.
-use Rattle.std.proofs.Common.{◌≡◌, ◌≢◌, ℕ, ◌+◌, ◌-◌, ◌<◌, ◌≤◌, ◌⊎◌, inl, inr, Bool, true, false, cond, ltb, zero, suc, List, [], ◌∷◌, ◌++◌, length, take, drop, refl, sym, ap, ◌∙◌, subst, append-nil, take-append-drop, length-drop, length-append, length-take-le, Option, Some, None, Ok, Err, Result, arith}
+use Rattle.std.proofs.Common.{◌≡◌, ◌≢◌, ℕ, ◌+◌, ◌-◌, ◌<◌, ◌≤◌, ◌⊎◌, inl, inr, Bool, true, false, cond, ltb, zero, suc, List, [], ◌∷◌, ◌++◌, length, take, drop, refl, sym, ap, ◌∙◌, subst, append-nil, take-append-drop, length-append, length-take-le, Option, Some, None, Ok, Err, Result, arith}
 use Rattle.std.specs.Prelude.{map, ◌↔◌, IsTrue, is_some, IfNone}
 use Rattle.std.specs.Option.{option_to_list}
-use Rattle.std.proofs.Math.Seq.{take-add}
 use Rattle.std.proofs.lemmas.Bool.{false≢true, cond_both}
 use Rattle.web_heads.specs.declared.body.BodyKind.{BodyKind}
 use Rattle.web_head_reader.specs.declared.fault.HeadReadFault.{HeadReadFault}
@@ -30,6 +29,7 @@ use Rattle.web_contents.specs.Contents as contents
 use Rattle.web_contents.specs.Calls as content_calls
 use Rattle.web_contents.proofs.Parts as content_parts
 use Rattle.web_contents.proofs.Places as places
+use Rattle.web_contents.proofs.Runs.{last_of}
 use Rattle.web_contents.proofs.Finish.{begin_fine}
 use Rattle.web_responses.specs.declared.event.WebEvent.{WebEvent}
 use Rattle.web_responses.specs.declared.event.WebEvent.TheVariants as event
@@ -40,6 +40,7 @@ use Rattle.web_responses.specs.Openings.{fault_of_reading, opening, Reads}
 use Rattle.web_responses.specs.Answers.{AnswerState, in_head, in_body, bad_head, begin_body, event_of, end_at, end_told, opened_body, opened, opened_told, head_led, head_told, answer_step, after, events_of, standing}
 use Rattle.web_responses.specs.Calls.{begin_of, state_of, end_due, due_of, Reader, IsHead, IsBody, Holds, Feeds, Settles, Refuses}
 use Rattle.web_responses.proofs.Runs.{after-nil, after-cons, events_of-cons, step-in_head, told-in_head, events_of-nil, after-append, events_of-append, after-in_body, events-in_body, Does, head_open, head_last, over-stays, refused-stays}
+use Rattle.web_responses.proofs.Ends.{no_front}
 
 abbrev pub reader : AnswerState → List WebEvent → ℕ → Reader
 reader state due count = record { state = state; due = due; count = count }
@@ -211,16 +212,6 @@ taken_held h piece new count n x before =
     let whole = length-take-le count piece x.within in omega arith
 
 -- ---- the end of the head
-
-one_of : (piece : List ℕ) → 0 < length piece → (b : ℕ) × (take 1 piece ≡ b ∷ [])
-one_of [] some = absurd (omega arith)
-one_of (b ∷ piece) some = (b, refl)
-
-last_of : (piece : List ℕ) (count : ℕ) → 0 < count → count ≤ length piece → (b : ℕ) × (take count piece ≡ take (count - 1) piece ++ b ∷ [])
-last_of piece count some within =
-    let one = one_of (drop (count - 1) piece) (omega (arith, length-drop (count - 1) piece)) in
-    let whole : count - 1 + 1 ≡ count = omega arith in
-    (one.0, ap (λ (n : ℕ). take n piece) (sym whole) ∙ take-add (count - 1) 1 piece ∙ ap (λ (last : List ℕ). take (count - 1) piece ++ last) one.1)
 
 some_taken : (h : HeadState) (piece : List ℕ) (new : HeadState) (count : ℕ) → Takes h piece new count → h.place ≡ head.Open → new.place ≡ head.Whole → 0 < count
 some_taken h piece new zero x going whole =
@@ -399,13 +390,9 @@ take-take (suc n) zero piece fits = absurd (omega arith)
 take-take (suc n) (suc count) [] fits = refl
 take-take (suc n) (suc count) (b ∷ piece) fits = ap (λ (rest : List ℕ). b ∷ rest) (take-take n count piece (omega arith))
 
-no_first : (front back : List FrameEvent) → front ++ back ≡ [] → front ≡ []
-no_first [] back e = refl
-no_first (x ∷ front) back e = absurd (cc)
-
 silent_before : (c : Content) (piece : List ℕ) (n count : ℕ) → n ≤ count → contents.events_of c (take count piece) ≡ [] → contents.events_of c (take n piece) ≡ []
 silent_before c piece n count fits silent =
-    no_first (contents.events_of c (take n piece)) (contents.events_of (contents.after c (take n piece)) (drop n (take count piece)))
+    no_front (contents.events_of c (take n piece)) (contents.events_of (contents.after c (take n piece)) (drop n (take count piece)))
     (sym (content_parts.events_of-append c (take n piece) (drop n (take count piece))) ∙ ap (contents.events_of c) (take-take n count piece fits) ∙ silent)
 
 -- the body isn't over before the last of the bytes that are taken

@@ -1,6 +1,5 @@
 -- What the machine of answers does with bytes, the standard says of them.
-use Rattle.std.proofs.Common.{◌≡◌, ℕ, ◌<◌, ◌⊎◌, inl, inr, List, [], ◌∷◌, ◌++◌, length, refl, sym, ap, ◌∙◌, subst, append_assoc, Option, Some, None, Result, Ok, Err}
-use Rattle.std.proofs.lemmas.List.Elements.{All-tail}
+use Rattle.std.proofs.Common.{◌≡◌, ℕ, ◌⊎◌, inl, inr, List, [], ◌∷◌, ◌++◌, length, refl, sym, ap, ◌∙◌, subst, append_assoc, Option, Some, None, Result, Ok, Err}
 use Rattle.web_heads.specs.declared.body.BodyKind.{BodyKind}
 use Rattle.web_heads.specs.declared.fault.HeadFault.{HeadFault}
 use Rattle.web_heads.specs.declared.response.ResponseHead.{ResponseHead}
@@ -20,6 +19,7 @@ use Rattle.web_frames.specs.declared.limits.Side.TheVariants.{Response}
 use Rattle.web_frames.specs.declared.status.Trailers.{Trailers}
 use Rattle.web_frames.specs.Standard.{IsBytes, ValuesSay}
 use Rattle.web_frames.specs.Trailers.{trailers_of}
+use Rattle.web_frames.proofs.ReadsLemmas.{All_back}
 use Rattle.web_frames.proofs.TrailerLemmas.{trailers_of-ValuesSay, ValuesSay-trailers_of}
 use Rattle.web_contents.specs.declared.fault.WebFault.{WebFault}
 use Rattle.web_contents.specs.declared.fault.WebFault.TheVariants.{HeadTooLong, AfterTrailers, BadTrailer}
@@ -167,15 +167,10 @@ found_head bytes head rest (Ok r) all e is says = found_right bytes head rest r 
 found_head bytes head rest (Err fault) all e is says =
     refused_head bytes head rest (fault_of_head fault) e (standard.bad_head fault is says refl refl)
 
--- bytes of a connection, and those of its end
-pub bytes_behind : (front back : List ℕ) → IsBytes (front ++ back) → IsBytes back
-bytes_behind [] back all = all
-bytes_behind (b ∷ front) back all = bytes_behind front back (All-tail (λ (d : ℕ). d < 256) b (front ++ back) all)
-
 found_by : (bytes : List ℕ) → IsBytes bytes → heads.IsBegun bytes ⊎ (((head : List ℕ) × HasHead bytes head) ⊎ HasTooLong bytes) → Found bytes
 found_by bytes all (inl x) = begun [] (within_head x refl)
 found_by bytes all (inr (inl (head, x))) =
-    found_head bytes head x.rest (response_head head) (bytes_behind head x.rest (subst IsBytes x.bytes_are all)) x.bytes_are x.is_head (responses.sound head)
+    found_head bytes head x.rest (response_head head) (All_back head x.rest (subst IsBytes x.bytes_are all)) x.bytes_are x.is_head (responses.sound head)
 found_by bytes all (inr (inr x)) =
     refused [] HeadTooLong (record { settled = x.settled; rest = x.rest; bytes_are = x.bytes_are; is_fault = too_long x.too_long refl refl })
 

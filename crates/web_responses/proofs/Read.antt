@@ -1,9 +1,8 @@
 -- The laws of answers, for all bytes.
 use Rattle.std.proofs.Common.{◌≡◌, ℕ, ◌⊎◌, inl, inr, List, ◌∷◌, ◌++◌, sym, ◌∙◌, subst}
 use Rattle.web_contents.specs.declared.fault.WebFault.{WebFault}
-use Rattle.web_contents.specs.declared.place.ContentPlace.{ContentPlace}
 use Rattle.web_contents.specs.declared.place.ContentPlace.TheVariants.{Open, Over, Refused}
-use Rattle.web_contents.proofs.Read.{Fronts, same, shorter, longer, fronts}
+use Rattle.web_contents.proofs.Read.{Fronts, same, shorter, longer, fronts, open_not_over, open_not_refused, over_not_refused, one_refusal}
 use Rattle.web_responses.specs.declared.event.WebEvent.{WebEvent}
 use Rattle.web_responses.specs.Answers.{begin, after, standing, answer_in}
 use Rattle.web_responses.specs.Standard.{HasAnswer, BeginsAnswer, IsAnswerFault, HasAnswerFault}
@@ -15,20 +14,6 @@ use Rattle.web_responses.proofs.Ends.{before}
 
 pub pieces_join : PiecesJoin
 pieces_join = record { state = fold-after; told = events_of_pieces-concat; ended = over-stays; refused = refused-stays }
-
--- ---- one place
-
-open_not_over : (place : ContentPlace) → place ≡ Open → place ≡ Over → ⊥
-open_not_over place e f = cc
-
-open_not_refused : (place : ContentPlace) (fault : WebFault) → place ≡ Open → place ≡ Refused fault → ⊥
-open_not_refused place fault e f = cc
-
-over_not_refused : (place : ContentPlace) (fault : WebFault) → place ≡ Over → place ≡ Refused fault → ⊥
-over_not_refused place fault e f = cc
-
-one_refusal : (place : ContentPlace) (fault wrong : WebFault) → place ≡ Refused fault → place ≡ Refused wrong → fault ≡ wrong
-one_refusal place fault wrong e f = cc
 
 -- ---- what the machine does, the standard says
 

@@ -15,6 +15,7 @@ use Rattle.web_contents.specs.declared.place.ContentPlace.{ContentPlace}
 use Rattle.web_contents.specs.declared.place.ContentPlace.TheVariants.{Open, Over, Refused}
 use Rattle.web_contents.specs.Contents.{Content, place_of, content_step, content_events}
 use Rattle.web_contents.specs.Contents as contents
+use Rattle.web_contents.proofs.Parts as content_parts
 use Rattle.web_contents.proofs.Places as places
 use Rattle.web_responses.specs.declared.event.WebEvent.{WebEvent}
 use Rattle.web_responses.specs.Answers.{AnswerState, in_head, in_body, bad_head, event_of, end_at, end_told, body_told, head_led, head_told, answer_step, answer_told, after, events_of, standing}
@@ -71,27 +72,11 @@ told-in_body : (c : Content) (b : ℕ) → answer_told (in_body c) b ≡ map eve
 unfolding answer_told body_told
 told-in_body c b = refl
 
-content_after-cons : (c : Content) (b : ℕ) (bytes : List ℕ) → contents.after c (b ∷ bytes) ≡ contents.after (content_step c b) bytes
-unfolding contents.after
-content_after-cons c b bytes = refl
-
-content_events-cons : (c : Content) (b : ℕ) (bytes : List ℕ) → contents.events_of c (b ∷ bytes) ≡ content_events c b ++ contents.events_of (content_step c b) bytes
-unfolding contents.events_of
-content_events-cons c b bytes = refl
-
-content_after-nil : (c : Content) → contents.after c [] ≡ c
-unfolding contents.after
-content_after-nil c = refl
-
-content_events-nil : (c : Content) → contents.events_of c [] ≡ []
-unfolding contents.events_of
-content_events-nil c = refl
-
 pub after-in_body : (c : Content) (bytes : List ℕ) → after (in_body c) bytes ≡ in_body (contents.after c bytes)
-after-in_body c [] = after-nil (in_body c) ∙ ap in_body (sym (content_after-nil c))
+after-in_body c [] = after-nil (in_body c) ∙ ap in_body (sym (content_parts.after-nil c))
 after-in_body c (b ∷ bytes) =
     after-cons (in_body c) b bytes ∙ ap (λ (s : AnswerState). after s bytes) (step-in_body c b)
-    ∙ after-in_body (content_step c b) bytes ∙ ap in_body (sym (content_after-cons c b bytes))
+    ∙ after-in_body (content_step c b) bytes ∙ ap in_body (sym (content_parts.after-cons c b bytes))
 
 -- what a body that has ended tells, and where it stands: nothing, and there
 abbrev pub Ended : ContentPlace → List FrameEvent → ContentPlace → Type 0
@@ -104,18 +89,10 @@ ended_by c bytes Open e = tt
 ended_by c bytes Over e = let stays = places.over-stays c bytes e in (stays.1, ap place_of stays.0 ∙ e)
 ended_by c bytes (Refused fault) e = let stays = places.refused-stays c bytes fault e in (stays.1, stays.0)
 
-one_event : (c : Content) (b : ℕ) → contents.events_of c (b ∷ []) ≡ content_events c b
-one_event c b =
-    content_events-cons c b [] ∙ ap (λ (rest : List FrameEvent). content_events c b ++ rest) (content_events-nil (content_step c b))
-    ∙ append-nil (content_events c b)
-
-one_step : (c : Content) (b : ℕ) → contents.after c (b ∷ []) ≡ content_step c b
-one_step c b = content_after-cons c b [] ∙ content_after-nil (content_step c b)
-
 ended_one : (c : Content) (b : ℕ) (place : ContentPlace) → place_of c ≡ place → Ended place (content_events c b) (place_of (content_step c b))
 ended_one c b place e =
-    subst (λ (told : List FrameEvent). Ended place told (place_of (content_step c b))) (one_event c b)
-    (subst (λ (d : Content). Ended place (contents.events_of c (b ∷ [])) (place_of d)) (one_step c b) (ended_by c (b ∷ []) place e))
+    subst (λ (told : List FrameEvent). Ended place told (place_of (content_step c b))) (content_parts.events_of-one c b)
+    (subst (λ (d : Content). Ended place (contents.events_of c (b ∷ [])) (place_of d)) (content_parts.after-one c b) (ended_by c (b ∷ []) place e))
 
 -- the events of a byte and of those after it
 joined_open : (first last : ContentPlace) (told more : List FrameEvent) → Ended first more last
@@ -157,8 +134,8 @@ pub events-in_body : (c : Content) (bytes : List ℕ)
     → events_of (in_body c) bytes ≡ map event_of (contents.events_of c bytes) ++ end_told (place_of c) (place_of (contents.after c bytes))
 events-in_body c [] =
     events_of-nil (in_body c)
-    ∙ sym (ap (λ (told : List FrameEvent). map event_of told ++ end_told (place_of c) (place_of (contents.after c []))) (content_events-nil c)
-    ∙ ap (λ (d : Content). end_told (place_of c) (place_of d)) (content_after-nil c)
+    ∙ sym (ap (λ (told : List FrameEvent). map event_of told ++ end_told (place_of c) (place_of (contents.after c []))) (content_parts.events_of-nil c)
+    ∙ ap (λ (d : Content). end_told (place_of c) (place_of d)) (content_parts.after-nil c)
     ∙ nothing_told (place_of c))
 events-in_body c (b ∷ bytes) =
     let next = content_step c b in
@@ -168,8 +145,8 @@ events-in_body c (b ∷ bytes) =
     ∙ ap (λ (rest : List WebEvent). (map event_of (content_events c b) ++ end_told (place_of c) (place_of next)) ++ rest) (events-in_body next bytes)
     ∙ joined (place_of c) (place_of next) (place_of (contents.after next bytes)) (content_events c b) (contents.events_of next bytes)
     (ended_one c b (place_of c) refl) (ended_by next bytes (place_of next) refl)
-    ∙ ap (λ (told : List FrameEvent). map event_of told ++ end_told (place_of c) (place_of (contents.after next bytes))) (sym (content_events-cons c b bytes))
-    ∙ ap (λ (d : Content). map event_of (contents.events_of c (b ∷ bytes)) ++ end_told (place_of c) (place_of d)) (sym (content_after-cons c b bytes))
+    ∙ ap (λ (told : List FrameEvent). map event_of told ++ end_told (place_of c) (place_of (contents.after next bytes))) (sym (content_parts.events_of-cons c b bytes))
+    ∙ ap (λ (d : Content). map event_of (contents.events_of c (b ∷ bytes)) ++ end_told (place_of c) (place_of d)) (sym (content_parts.after-cons c b bytes))
 
 -- ---- within the head
 

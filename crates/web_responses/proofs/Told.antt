@@ -20,6 +20,7 @@ use Rattle.web_bodies.specs.Steps as bodies
 use Rattle.web_bodies.specs.Standard.{HasBody, HasFault}
 use Rattle.web_bodies.specs.Standard as body_words
 use Rattle.web_bodies.proofs.Read.{bodies_are_read}
+use Rattle.web_bodies.proofs.TrailerRuns.{last_of}
 use Rattle.web_frames.specs.declared.limits.Side.TheVariants.{Response}
 use Rattle.web_frames.specs.declared.fault.FrameFault.TheVariants as frame_fault
 use Rattle.web_frames.specs.declared.event.FrameEvent.{FrameEvent}
@@ -52,13 +53,6 @@ use Rattle.web_responses.proofs.Runs.{after-append, events_of-append, after-in_b
 
 -- ---- heads
 
--- a head that is whole
-some_bytes : (bytes : List ℕ) → 0 < length bytes → (front : List ℕ) × (last : ℕ) × (bytes ≡ front ++ last ∷ [])
-some_bytes [] some = absurd (omega arith)
-some_bytes (b ∷ []) some = ([], b, refl)
-some_bytes (b ∷ c ∷ bytes) some =
-    let rest = some_bytes (c ∷ bytes) (omega arith) in (b ∷ rest.0, rest.1, ap (λ (tail : List ℕ). b ∷ tail) rest.2)
-
 head_some : (bytes : List ℕ) → IsHead bytes → 0 < length bytes
 head_some bytes is = let stop = is.ends.stop_is in omega arith
 
@@ -76,16 +70,17 @@ last_leads bytes front last next e begun leads =
 -- a whole head says what its bytes say
 pub head_reads : (bytes : List ℕ) → IsHead bytes → Does begin bytes (opened (length bytes) (opening bytes)) (opened_told (length bytes) (opening bytes))
 head_reads bytes is =
-    let (front, last, e) = some_bytes bytes (head_some bytes is) in
+    let x = last_of bytes (head_some bytes is) in
     let leads = (heads_read.heads_are_read.whole bytes bytes).0 (record { rest = []; bytes_are = sym (append-nil bytes); is_head = is }) in
-    last_leads bytes front last (record { place = head.Whole; held = bytes }) e
-    (heads_read.ends_are_first.whole front last [] (subst IsHead e is)) leads
+    last_leads bytes x.front x.last (record { place = head.Whole; held = bytes }) x.bytes_are
+    (heads_read.ends_are_first.whole x.front x.last [] (subst IsHead x.bytes_are is)) leads
 
 too_long_reads : (bytes : List ℕ) → IsTooLong bytes → Does begin bytes (bad_head HeadTooLong) []
 too_long_reads bytes is =
-    let (front, last, e) = some_bytes bytes (long_some bytes is) in
+    let x = last_of bytes (long_some bytes is) in
     let leads = (heads_read.heads_are_read.too_long bytes).0 (record { settled = bytes; rest = []; bytes_are = sym (append-nil bytes); too_long = is }) in
-    last_leads bytes front last (refused_at read.HeadTooLong) e (heads_read.ends_are_first.too_long front last [] (subst IsTooLong e is)) leads
+    last_leads bytes x.front x.last (refused_at read.HeadTooLong) x.bytes_are
+    (heads_read.ends_are_first.too_long x.front x.last [] (subst IsTooLong x.bytes_are is)) leads
 
 -- ---- what a head says of the answer
 

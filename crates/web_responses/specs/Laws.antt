@@ -1,14 +1,15 @@
 -- Laws over the definitions, for all bytes.
-use Rattle.std.specs.Prelude.{◌≡◌, ◌↔◌, ℕ, ◌⊎◌, true, List, [], ◌∷◌, ◌++◌, take, fold, Option, Ok, Err}
+use Rattle.std.specs.Prelude.{◌≡◌, ◌↔◌, ℕ, ◌⊎◌, true, false, List, [], ◌∷◌, ◌++◌, take, fold, Option, Ok, Err}
 use Rattle.std.specs.Option.{option_to_list}
 use Rattle.std.specs.List.{concat, flat_map}
 use Rattle.web_frames.specs.Standard.{IsBytes}
 use Rattle.web_contents.specs.declared.fault.WebFault.{WebFault}
+use Rattle.web_contents.specs.declared.fault.WebFault.TheVariants.{Truncated}
 use Rattle.web_contents.specs.declared.place.ContentPlace.TheVariants.{Open, Over, Refused}
 use Rattle.web_responses.specs.declared.event.WebEvent.{WebEvent}
 use Rattle.web_responses.specs.Answers.{AnswerState, after, events_of, standing, finish, answer_in}
 use Rattle.web_responses.specs.Calls.{Reader, begin, Feeds, Settles}
-use Rattle.web_responses.specs.Standard.{HasAnswer, BeginsAnswer, IsAnswerFault, HasAnswerFault, EndsWithConnection}
+use Rattle.web_responses.specs.Standard.{HasAnswer, BeginsAnswer, IsAnswerFault, HasAnswerFault, EndsWithConnection, IsCutOff}
 
 -- an answer is open, over or refused exactly where the standard says that the bytes begin one, have one, or have the fault, with the events
 -- that it tells
@@ -41,12 +42,17 @@ pub record EndsAreFirst : Type 0 where
   pub refused : (front : List ℕ) (b : ℕ) (back : List ℕ) (told : List WebEvent) (fault : WebFault) → IsBytes front
       → IsAnswerFault (front ++ b ∷ back) told fault → (before : List WebEvent) × BeginsAnswer front before
 
--- where the connection ends before the end of an answer: the answer is whole exactly where its body ends with the connection and its payload
--- is whole; a fault is the one that came before
+-- where the connection ends: the answer is whole with it exactly where its body ends with the connection and its payload is whole; it is
+-- truncated exactly where the connection ended within a body by length or in chunks, or where this is the fault that came before, of a body
+-- that ended within a frame; any other fault is the one that came before; and else the end of the connection says nothing
 pub record ConnectionsEnd : Type 0 where
   pub whole : (bytes : List ℕ) → IsBytes bytes → EndsWithConnection bytes ↔ ((answer_in bytes).ending ≡ Ok true)
+  pub cut_off : (bytes : List ℕ) → IsBytes bytes
+      → (IsCutOff bytes ⊎ ((told : List WebEvent) × HasAnswerFault bytes told Truncated)) ↔ ((answer_in bytes).ending ≡ Err Truncated)
   pub refused : (bytes : List ℕ) (told : List WebEvent) (fault : WebFault) → HasAnswerFault bytes told fault
       → (answer_in bytes).ending ≡ Err fault
+  pub otherwise : (bytes : List ℕ) → IsBytes bytes → ¬ (EndsWithConnection bytes) → ¬ (IsCutOff bytes)
+      → ((told : List WebEvent) (fault : WebFault) → ¬ (HasAnswerFault bytes told fault)) → (answer_in bytes).ending ≡ Ok false
 
 -- the events of pieces one after another
 abbrev pub events_of_pieces : AnswerState → List (List ℕ) → List WebEvent

@@ -1,6 +1,6 @@
 -- Answers in the standard's words (RFC 9112; gRPC-Web protocol): a head up to the first empty line, and then a body whose payload is frames. A
 -- head with a grpc-status has the trailers, and then the body has no payload.
-use Rattle.std.specs.Prelude.{◌≡◌, ℕ, List, [], ◌∷◌, ◌++◌, length, map, Option, Some, None, Ok, Err}
+use Rattle.std.specs.Prelude.{◌≡◌, ◌≢◌, ℕ, List, [], ◌∷◌, ◌++◌, length, map, Option, Some, None, Ok, Err}
 use Rattle.std.specs.Option.{option_to_list}
 use Rattle.web_heads.specs.declared.body.BodyKind.{BodyKind}
 use Rattle.web_heads.specs.declared.body.BodyKind.TheVariants.{ToEnd}
@@ -151,3 +151,14 @@ pub record EndsWithConnection (bytes : List ℕ) : Type 0 where
   pub opening : HasOpening bytes head rest r trailers
   pub to_end : r.body ≡ ToEnd
   pub frames : IsWholePayload trailers rest
+
+-- the connection ended within a body by length or in chunks: a right head, and a beginning of such a body
+pub record IsCutOff (bytes : List ℕ) : Type 0 where
+  pub head : List ℕ
+  pub rest : List ℕ
+  pub r : ResponseHead
+  pub trailers : Option Trailers
+  pub more : List WebEvent
+  pub opening : HasOpening bytes head rest r trailers
+  pub framed : r.body ≢ ToEnd
+  pub body : IsBegunBody trailers r.body rest more

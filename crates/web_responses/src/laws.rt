@@ -18,7 +18,9 @@ pub fn ends_are_first()
     ensures { EndsAreFirst }
 {}
 
-/// Where the connection ends, the answer is whole exactly where its body ends with the connection and has whole frames.
+/// Where the connection ends, the answer is whole exactly where its body ends with the connection and has whole frames; it is truncated exactly
+/// where a body by length or in chunks has begun and isn't over, or was over within a frame; after a fault it is refused with that one; and
+/// else the end of the connection says nothing.
 pub fn connections_end()
     ensures { ConnectionsEnd }
 {}

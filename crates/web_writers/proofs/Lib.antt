@@ -1,5 +1,7 @@
 pub mod Lines
+pub mod Fields
 pub mod RequestHead
+pub mod Bytes
 pub mod ReadBack
 pub mod TrailersText
 pub mod ResponseHead

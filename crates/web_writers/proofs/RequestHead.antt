@@ -2,8 +2,6 @@
 use Rattle.std.proofs.Common.{◌≡◌, ℕ, ◌^◌, ◌<◌, ◌≤◌, Bool, true, false, List, [], ◌∷◌, ◌++◌, length, reverse, refl, sym, ap, ◌∙◌, arith, append_assoc, append-nil, length-append, inr, Some, Ok, codes}
 use Rattle.std.specs.List.{All, list_all}
 use Rattle.std.specs.Fmt.{decimal}
-use Rattle.std.specs.Char.{is_ascii_digit, digit_value}
-use Rattle.std.specs.Str.Parse.{AllDigits}
 use Rattle.std.proofs.Common.{lit<, lit≤}
 use Rattle.std.proofs.lemmas.Bool.{and_from, cond-false}
 use Rattle.std.proofs.lemmas.List.{reverse-append, reverse-reverse}
@@ -11,17 +9,17 @@ use Rattle.std.proofs.lemmas.Bool.Decides.{nat_tests}
 use Rattle.std.proofs.lemmas.List.Elements.{All-nil, All-cons, All-head, All-tail, All-append, All-weaker}
 use Rattle.std.proofs.lemmas.List.Sums.{AllPass-from_list_all}
 use Rattle.std.proofs.lemmas.List.Folds.{list_all-append}
-use Rattle.std.proofs.lemmas.Fmt.{decimal_is_IsNumeral, length-decimal-le}
+use Rattle.std.proofs.lemmas.Fmt.{length-decimal-le}
 use Rattle.std.proofs.lemmas.Str.{IsUtf8-from_ascii}
 use Rattle.std.proofs.lemmas.Str.Ascii.{IsAscii-from_all}
 use Rattle.httparse.specs.Grammar as grammar
 use Rattle.web_heads.specs.declared.body.BodyKind.TheVariants.{Length}
-use Rattle.web_heads.specs.Texts.{without_trailing_ows}
-use Rattle.web_heads.specs.Fields.{inner_lines, values, first_value, media_type}
-use Rattle.web_heads.specs.Standard.{IsDecimal, HasManyLines, FramesAs, request_fields, RequestSays}
-use Rattle.web_heads.proofs.TreeLemmas.{IsToken-is_token}
+use Rattle.web_heads.specs.Fields.{inner_lines, values, first_value}
+use Rattle.web_heads.specs.Standard.{HasManyLines, FramesAs, request_fields, RequestSays}
 use Rattle.web_head_reader.specs.Standard.{IsHead}
+use Rattle.web_frames.proofs.WrittenLemmas.{IsDigit, IsDecimal-decimal, decimal_digits}
 use Rattle.web_writers.specs.Requests.{IsVisibleText, head_text}
+use Rattle.web_writers.proofs.Fields.{is_field, grpc_type}
 use Rattle.web_writers.proofs.Lines.{head_of, is_plain, is_line, first_end, feeds, feeds-lines}
 
 -- the tree of the head
@@ -111,31 +109,12 @@ visible_ascii b x = omega arith
 
 -- ---- digits
 
-digit_range : (b : ℕ) → digit_value b < 10 → (48 ≤ b) × (b ≤ 57)
-digit_range b small = grind (arith, nat_tests)
-
-is_digit_from : (b : ℕ) → (48 ≤ b) × (b ≤ 57) → is_ascii_digit b ≡ true
-is_digit_from b range = grind (arith, nat_tests)
-
-All-AllDigits : (digits : List ℕ) → AllDigits 10 digits → All (λ b. (48 ≤ b) × (b ≤ 57)) digits
-All-AllDigits [] all = All-nil (λ b. (48 ≤ b) × (b ≤ 57))
-All-AllDigits (b ∷ digits) all = All-cons (λ b. (48 ≤ b) × (b ≤ 57)) b digits (digit_range b all.0) (All-AllDigits digits all.1)
-
 digit_visible : (b : ℕ) → (48 ≤ b) × (b ≤ 57) → IsVisible b
 digit_visible b x = (omega arith, omega arith)
 
 pub digits_visible : (n : ℕ) → n < 2 ^ 64 → All IsVisible (decimal n)
 digits_visible n fits =
-    All-weaker (λ b. (48 ≤ b) × (b ≤ 57)) IsVisible digit_visible (decimal n) (All-AllDigits (decimal n) (decimal_is_IsNumeral n fits).0.1)
-
-is_decimal : (n : ℕ) → n < 2 ^ 64 → IsDecimal (decimal n) n
-is_decimal n fits =
-    let numeral = decimal_is_IsNumeral n fits in
-    record {
-      some = numeral.0.0;
-      digits = All-weaker (λ b. (48 ≤ b) × (b ≤ 57)) (λ b. is_ascii_digit b ≡ true) is_digit_from (decimal n) (All-AllDigits (decimal n) numeral.0.1);
-      value = sym numeral.1;
-    }
+    All-weaker IsDigit IsVisible digit_visible (decimal n) (decimal_digits n fits)
 
 -- ---- its end
 
@@ -178,13 +157,6 @@ few_lines path host count x y fits many =
     let counted = ap feeds (in_lines path host count) ∙ feeds-lines (lines path host count) (is_lines path host count x.visible y.visible fits) in
     absurd (omega arith)
 
-all_pass : (test : ℕ → Bool) (text : List ℕ) → list_all test text ≡ true → grammar.AllPass test text
-all_pass test text e = AllPass-from_list_all test text e
-
-is_field : (name raw : List ℕ) → grammar.is_token name ≡ true → list_all grammar.is_value_byte raw ≡ true
-    → grammar.IsField (record { name = name; raw = raw; end = grammar.crlf })
-is_field name raw token plain = record { name = IsToken-is_token name token; raw = all_pass grammar.is_value_byte raw plain }
-
 six : {a b c d e f : grammar.Field} → grammar.IsField a → grammar.IsField b → grammar.IsField c → grammar.IsField d → grammar.IsField e
     → grammar.IsField f → All grammar.IsField (a ∷ b ∷ c ∷ d ∷ e ∷ f ∷ [])
 six {a} {b} {c} {d} {e} {f} xa xb xc xd xe xf =
@@ -197,8 +169,8 @@ six {a} {b} {c} {d} {e} {f} xa xb xc xd xe xf =
 is_request_head : (path host : List ℕ) (count : ℕ) → IsVisibleText path → IsVisibleText host → count < 2 ^ 64 → grammar.IsRequestHead (tree path host count)
 unfolding tree grammar.is_token_byte
 is_request_head path host count x y fits = record {
-  method = (lit< tt, all_pass grammar.is_token_byte (codes "POST") refl);
-  target = (x.some, all_pass grammar.is_uri_byte path (passes grammar.is_uri_byte visible_uri path x.visible));
+  method = (lit< tt, AllPass-from_list_all grammar.is_token_byte (codes "POST") refl);
+  target = (x.some, AllPass-from_list_all grammar.is_uri_byte path (passes grammar.is_uri_byte visible_uri path x.visible));
   target_text = IsUtf8-from_ascii path (IsAscii-from_all path (All-weaker IsVisible (λ b. b < 128) visible_ascii path x.visible));
   minor = lit≤ tt;
   fields =
@@ -244,15 +216,11 @@ content_type : (path host : List ℕ) (count : ℕ)
 unfolding tree values grammar.trim_ows
 content_type path host count = refl
 
-grpc_type : media_type (codes "application/grpc-web+proto") ≡ codes "application/grpc-web+proto"
-unfolding media_type without_trailing_ows
-grpc_type = refl
-
 frames_as : (path host : List ℕ) (count : ℕ) → count < 2 ^ 62 → FramesAs (request_fields (tree path host count)) (Length count)
 frames_as path host count fits =
     let lengths = content_length path host count ∙ ap (λ (v : List ℕ). v ∷ []) (trim_visible (decimal count) (digits_visible count (omega arith))) in
     let codings = transfer_encoding path host count in (
-      record { value = decimal count; only = lengths; number = is_decimal count (omega arith); fits = omega arith },
+      record { value = decimal count; only = lengths; number = IsDecimal-decimal count (omega arith); fits = omega arith },
       rw codings (omega arith),
       rw codings (λ x. absurd (let none : [] ≡ x.value ∷ [] = x.only in cc)),
     )

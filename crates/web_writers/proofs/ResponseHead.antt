@@ -1,18 +1,17 @@
 -- The head of a response as it is written, as a tree of the grammar.
 use Rattle.std.proofs.Common.{◌≡◌, ℕ, ◌≤◌, true, List, [], ◌∷◌, length, refl, sym, ap, ◌∙◌, arith, append-nil, inr, Some, None, Ok, codes}
 use Rattle.std.proofs.Common.{lit≤}
-use Rattle.std.specs.List.{All, list_all}
+use Rattle.std.specs.List.{All}
 use Rattle.std.specs.Char.{is_ascii_digit}
 use Rattle.std.proofs.lemmas.List.Elements.{All-nil, All-cons}
 use Rattle.std.proofs.lemmas.List.Sums.{AllPass-from_list_all}
 use Rattle.httparse.specs.Grammar as grammar
 use Rattle.web_heads.specs.declared.body.BodyKind.TheVariants.{Chunks}
-use Rattle.web_heads.specs.Texts.{without_trailing_ows}
-use Rattle.web_heads.specs.Fields.{values, first_value, media_type, inner_lines}
+use Rattle.web_heads.specs.Fields.{values, first_value, inner_lines}
 use Rattle.web_heads.specs.Standard.{HasManyLines, HasGrpcType, response_fields, ResponseSays}
-use Rattle.web_heads.proofs.TreeLemmas.{IsToken-is_token}
 use Rattle.web_head_reader.specs.Standard.{IsHead}
 use Rattle.web_writers.specs.Responses.{head_text}
+use Rattle.web_writers.proofs.Fields.{is_field, grpc_type}
 use Rattle.web_writers.proofs.Lines.{head_of, first_end, feeds, feeds-lines}
 
 unfoldable pub tree : grammar.ResponseHead
@@ -57,11 +56,6 @@ few_lines many =
     let counted = ap feeds in_lines ∙ feeds-lines (codes "HTTP/1.1 200 OK" ∷ later_lines) refl in
     absurd (omega arith)
 
-is_field : (name raw : List ℕ) → grammar.is_token name ≡ true → list_all grammar.is_value_byte raw ≡ true
-    → grammar.IsField (record { name = name; raw = raw; end = grammar.crlf })
-is_field name raw token plain =
-    record { name = IsToken-is_token name token; raw = AllPass-from_list_all grammar.is_value_byte raw plain }
-
 three : {a b c : grammar.Field} → grammar.IsField a → grammar.IsField b → grammar.IsField c → All grammar.IsField (a ∷ b ∷ c ∷ [])
 three {a} {b} {c} xa xb xc =
     All-cons grammar.IsField a (b ∷ c ∷ []) xa
@@ -82,10 +76,6 @@ is_response_head = record {
 content_type : first_value (codes "content-type") (response_fields tree) ≡ Some (codes "application/grpc-web+proto")
 unfolding tree values grammar.trim_ows
 content_type = refl
-
-grpc_type : media_type (codes "application/grpc-web+proto") ≡ codes "application/grpc-web+proto"
-unfolding media_type without_trailing_ows
-grpc_type = refl
 
 has_grpc_type : HasGrpcType (response_fields tree)
 has_grpc_type = record { value = codes "application/grpc-web+proto"; first = content_type; type = inr grpc_type }

@@ -5,19 +5,20 @@ use Rattle.web_contents.specs.declared.place.ContentPlace.TheVariants.{Refused}
 use Rattle.web_contents.specs.Contents.{ends_with_connection}
 use Rattle.web_contents.proofs.Places.{place-bad_frames}
 use Rattle.web_contents.proofs.Finish.{after_ends}
-use Rattle.web_contents.proofs.Runs.{with_parts, after_side, refused_frames, some_taken, run_payload, refuses_payload}
+use Rattle.web_frames.proofs.ReaderLemmas.{after-side}
+use Rattle.web_contents.proofs.Runs.{with_parts, refused_frames, some_taken, run_payload, refuses_payload}
 use Rattle.web_contents.proofs.reader.ContentReader.take_payload.Goals as goal
 
 pub place_after-self-inside-requires-clause-side : goal.place_after-self-inside-requires-clause-side
 place_after-self-inside-requires-clause-side c =
-    c.self.invariant.0 ∙ sym (ap (λ (s : FrameState). s.side) c.in-Ok.ensures.state ∙ after_side c.self.inside.frames (take c.in-Ok.count c.args.payload.now))
+    c.self.invariant.0 ∙ sym (ap (λ (s : FrameState). s.side) c.in-Ok.ensures.state ∙ after-side c.self.inside.frames (take c.in-Ok.count c.args.payload.now))
 
 pub invariant_of-self : goal.invariant_of-self
 invariant_of-self c =
     let count = c.in-Ok.count in
     let payload = c.args.payload.now in
     let taken = c.take_payload.ensures.taken (take count payload) (length-take-le count payload c.in-Ok.ensures.within) in (
-      c.self.invariant.0 ∙ sym (ap (λ (s : FrameState). s.side) c.in-Ok.ensures.state ∙ after_side c.self.inside.frames (take count payload)),
+      c.self.invariant.0 ∙ sym (ap (λ (s : FrameState). s.side) c.in-Ok.ensures.state ∙ after-side c.self.inside.frames (take count payload)),
       c.self.invariant.1 ∙ sym (ap (λ (b : Body). ends_with_connection b.place) taken.state ∙ after_ends c.self.inside.body (take count payload)),
       c.place_after-self-inside.ensures,
     )
