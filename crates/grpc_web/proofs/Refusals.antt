@@ -10,11 +10,12 @@ use Rattle.std.proofs.lemmas.Bool.{false≢true}
 use Rattle.std.proofs.lemmas.List.Elements.{All-nil, All-cons, All-append}
 use Rattle.std.proofs.lemmas.List.Sums.{AllPass-from_list_all}
 use Rattle.httparse.specs.Grammar as grammar
-use Rattle.web_heads.specs.declared.body.BodyKind.TheVariants.{Length, ToEnd}
+use Rattle.web_heads.specs.declared.body.BodyKind.TheVariants.{Length}
 use Rattle.web_heads.specs.declared.response.ResponseHead.{ResponseHead}
 use Rattle.web_heads.specs.Fields.{values, first_value, inner_lines}
 use Rattle.web_heads.specs.Standard.{HasManyLines, HasGrpcType, IsChunked, response_fields, ResponseSays}
 use Rattle.web_head_reader.specs.Standard.{IsHead}
+use Rattle.web_bodies.proofs.Growth.{length_framed}
 use Rattle.web_frames.specs.declared.limits.Side.TheVariants.{Response}
 use Rattle.web_frames.specs.Standard.{IsBytes}
 use Rattle.web_contents.specs.declared.place.ContentPlace.TheVariants.{Over}
@@ -154,13 +155,10 @@ says {status} {digits} {phrase} x = (
     few_codings : (digits phrase : List ℕ) → length (values (codes "transfer-encoding") (response_fields (tree digits phrase))) ≤ 1
     few_codings digits phrase = rw (no_codings digits phrase) (omega arith)
 
-by_length : (count : ℕ) → Length count ≢ ToEnd
-by_length count e = cc
-
 no_body : (rest : List ℕ) → HasContent Response (Length 0) rest [] None
 no_body rest = record {
   payload = [];
-  body = record { framed = by_length 0; body = []; rest = rest; bytes_are = refl; is_body = (refl, refl) };
+  body = record { framed = length_framed 0; body = []; rest = rest; bytes_are = refl; is_body = (refl, refl) };
   frames = record { front = []; back = []; whole = refl; first = refl; last = refl; few = tt };
   enough = tt;
 }

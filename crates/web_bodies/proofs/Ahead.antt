@@ -112,7 +112,7 @@ payload_ahead-all place available count line bytes reached fits =
     (takes_ahead place count line bytes (payload_ahead-fewer place available (length bytes) fits) reached).payload
 
 -- payload leads to no fault
-length_place-not_refused : (left : ℕ) (fault : BodyFault) → length_place left ≢ Refused fault
+pub length_place-not_refused : (left : ℕ) (fault : BodyFault) → length_place left ≢ Refused fault
 unfolding length_place
 length_place-not_refused left fault = cond_both (eqb left 0) Over (DataByLength left) (λ place. place ≢ Refused fault) (λ _ e. cc) (λ _ e. cc)
 

@@ -40,9 +40,6 @@ data_begun at line size content x some fits =
     (after-data_place size (at + length line) [] content fits))
 
 -- a chunk line and all of its data
-at_cr : ℕ → Body
-at_cr count = record { place = ChunkCr; count = count; line = [] }
-
 data_place-zero : data_place 0 ≡ ChunkCr
 unfolding data_place
 data_place-zero = refl

@@ -1,5 +1,5 @@
 -- Bytes of the framing, one after another, up to where payload begins, the body is over or it is refused.
-use Rattle.std.proofs.Common.{◌≡◌, ◌≢◌, ℕ, ◌+◌, ◌<◌, ◌≤◌, false, cond, eqb, ltb, List, [], ◌∷◌, ◌++◌, length, take, drop, get_or, refl, sym, ap, ◌∙◌, arith, append-nil, ◌⊎◌, inl, inr, take-append-drop}
+use Rattle.std.proofs.Common.{◌≡◌, ◌≢◌, ℕ, ◌+◌, ◌<◌, ◌≤◌, false, cond, eqb, ltb, List, [], ◌∷◌, ◌++◌, length, take, drop, get_or, refl, sym, ap, ◌∙◌, arith, append-nil, ◌⊎◌, inr, take-append-drop}
 use Rattle.std.specs.Prelude.{IsTrue}
 use Rattle.std.proofs.lemmas.Bool.{cond-false, cond_both}
 use Rattle.std.proofs.lemmas.List.{take_more}
@@ -137,19 +137,6 @@ taken_up_to old piece now index next so_far within step not_refused ends = recor
   counted = count_more old piece now index next so_far step;
   not_refused = not_refused;
   ends = inr ends;
-}
-
--- the whole piece
-pub taken_all : (old : Body) (piece : List ℕ) (now : Body) (index : ℕ) → TakenSoFar old piece now index → index ≡ length piece
-    → 0 < length piece → TakesFraming old piece now (length piece)
-taken_all old piece now index so_far whole some = record {
-  some = some;
-  within = omega arith;
-  state = rw whole at so_far.state;
-  payload = rw whole at so_far.payload;
-  counted = rw whole at so_far.counted;
-  not_refused = so_far.not_refused;
-  ends = inl refl;
 }
 
 -- ---- refusals

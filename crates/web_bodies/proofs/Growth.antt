@@ -180,7 +180,7 @@ pub data Found (kind : BodyKind) (at : ℕ) (bytes : List ℕ) : Type 0 where
 chunks_framed : Chunks ≢ ToEnd
 chunks_framed e = cc
 
-length_framed : (count : ℕ) → Length count ≢ ToEnd
+pub length_framed : (count : ℕ) → Length count ≢ ToEnd
 length_framed count e = cc
 
 -- by what one byte more leads to

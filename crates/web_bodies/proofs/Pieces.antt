@@ -1,12 +1,12 @@
 -- A piece, taken in runs of payload and of framing.
-use Rattle.std.proofs.Common.{◌≡◌, ◌≢◌, ℕ, ◌+◌, ◌<◌, ◌≤◌, List, ◌++◌, length, take, drop, sym, ap, ◌∙◌, arith, append_assoc, append-nil, ◌⊎◌, take-append-drop, length-drop}
+use Rattle.std.proofs.Common.{◌≡◌, ◌≢◌, ℕ, ◌+◌, ◌<◌, ◌≤◌, List, ◌++◌, length, take, drop, sym, ap, ◌∙◌, arith, append_assoc, append-nil, take-append-drop, length-drop}
 use Rattle.std.proofs.Math.Seq.{take-add}
 use Rattle.web_bodies.specs.declared.fault.BodyFault.{BodyFault}
 use Rattle.web_bodies.specs.declared.fault.BodyFault.TheVariants.{BadChunk, HeadTooLong, OutOfMemory}
-use Rattle.web_bodies.specs.declared.place.BodyPlace.TheVariants.{Over, Refused}
+use Rattle.web_bodies.specs.declared.place.BodyPlace.TheVariants.{Refused}
 use Rattle.web_bodies.specs.Body.{Body}
 use Rattle.web_bodies.specs.Steps.{after, payload_after}
-use Rattle.web_bodies.specs.Calls.{TakesPayload, IsFaulty, Refuses, TakesRun, TakesPiece, IsPieceFaulty, RefusesPiece}
+use Rattle.web_bodies.specs.Calls.{TakesPayload, IsFaulty, Refuses, TakesRun, IsPieceFaulty, RefusesPiece}
 use Rattle.web_bodies.proofs.Runs.{after-append, after-nil, payload_after-append, payload_after-nil}
 
 -- so many bytes of a piece were taken, and their payload was appended
@@ -46,18 +46,6 @@ run_more old piece now next before payload longer taken count so_far run =
       counted = let counted = run.counted in let before_that = so_far.counted in omega arith;
       not_refused = run.not_refused;
     }
-
--- the whole piece, or all up to the end of the body
-pub run_all : (old : Body) (piece : List ℕ) (now : Body) (before payload : List ℕ) (taken : ℕ) → RunSoFar old piece now before payload taken
-    → (taken ≡ length piece) ⊎ (now.place ≡ Over) → TakesPiece old piece now before payload taken
-run_all old piece now before payload taken so_far ends = record {
-  within = so_far.within;
-  state = so_far.state;
-  payload = so_far.payload_is;
-  counted = so_far.counted;
-  not_refused = so_far.not_refused;
-  ends = ends;
-}
 
 -- a run of payload
 pub run_payload : (old : Body) (piece : List ℕ) (new : Body) (before : List ℕ) (count : ℕ) → TakesPayload old (take count piece) new

@@ -1,10 +1,10 @@
 -- The first empty line after a line's CR LF, byte by byte: what the last bytes are says where the next one stands.
-use Rattle.std.proofs.Common.{◌≡◌, ◌≢◌, ℕ, ◌+◌, ◌≤◌, true, false, List, [], ◌∷◌, ◌++◌, length, take, drop, refl, sym, ap, ◌∙◌, arith, append_assoc, length-append, length-drop, inl, inr}
+use Rattle.std.proofs.Common.{◌≡◌, ◌≢◌, ℕ, ◌+◌, true, false, List, [], ◌∷◌, ◌++◌, length, take, drop, refl, sym, ap, ◌∙◌, arith, append_assoc, length-append, length-drop, inl, inr}
 use Rattle.std.proofs.lemmas.Bool.{cases_eq, cases_lt, eqb-true, eqb-false, eq-eqb, ne_eqb, false≢true, both_ways, false_from_ne_true}
-use Rattle.std.proofs.lemmas.List.{same_from_push, drop-append-le, take-append-le, drop_at, take_all, take-append-drop}
+use Rattle.std.proofs.lemmas.List.{same_from_push, drop_at, take_all, take-append-drop}
 use Rattle.httparse.specs.Ascii.{crlf_bytes}
 use Rattle.web_heads.specs.HeadEnds.{EndsLines, IsFirstEnd}
-use Rattle.web_heads.proofs.EndLemmas.{EndsLines-within}
+use Rattle.web_heads.proofs.EndLemmas.{EndsLines-within, EndsLines-before, EndsLines-append, HasNone, IsFirstEnd-push}
 use Rattle.web_bodies.specs.declared.place.TrailerPlace.{TrailerPlace}
 use Rattle.web_bodies.specs.declared.place.TrailerPlace.TheVariants.{LineStart, EmptyLineCr, InLine, LineCr}
 use Rattle.web_bodies.specs.Steps.{is_empty_line, trailer_step}
@@ -107,18 +107,6 @@ ends_empty_line bytes LineCr b (line_cr at no_crlfcr) ends =
 
 -- ---- by places
 
--- what ends before the last byte is there without it
-pub EndsLines-front : (bytes more : List ℕ) (at : ℕ) → at + 4 ≤ length bytes → EndsLines (bytes ++ more) at → EndsLines bytes at
-EndsLines-front bytes more at within ends =
-    sym (ap (take 4) (drop-append-le at bytes more (omega arith))
-    ∙ take-append-le 4 (drop at bytes) more (omega (arith, length-drop at bytes)))
-    ∙ ends
-
-pub EndsLines-append : (bytes more : List ℕ) (at : ℕ) → EndsLines bytes at → EndsLines (bytes ++ more) at
-EndsLines-append bytes more at ends =
-    let within = EndsLines-within bytes at ends in
-    ap (take 4) (drop-append-le at bytes more (omega arith)) ∙ take-append-le 4 (drop at bytes) more (omega (arith, length-drop at bytes)) ∙ ends
-
 -- CR LF CR LF at the very end
 Ends-EndsLines : (bytes : List ℕ) → (x : Ends (13 ∷ 10 ∷ 13 ∷ 10 ∷ []) bytes) → EndsLines bytes (length x.front)
 Ends-EndsLines bytes x = ap (λ (all : List ℕ). take 4 (drop (length x.front) all)) x.bytes_are ∙ ap (take 4) (drop_at x.front (13 ∷ 10 ∷ 13 ∷ 10 ∷ []) (length x.front) refl)
@@ -131,13 +119,6 @@ EndsLines-Ends bytes at ends last = record {
       ∙ ap (λ (back : List ℕ). take at bytes ++ back) (sym (take_all 4 (drop at bytes) (omega (arith, length-drop at bytes))) ∙ ends);
 }
 
--- no CR LF CR LF anywhere
-abbrev pub HasNone : List ℕ → Type 0
-HasNone bytes = (at : ℕ) → ¬ (EndsLines bytes at)
-
-pub HasNone-front : (bytes more : List ℕ) → HasNone (bytes ++ more) → HasNone bytes
-HasNone-front bytes more none at ends = none at (EndsLines-append bytes more at ends)
-
 -- one byte more that ends no empty line, or one
 pub HasNone-push : (bytes : List ℕ) (line : TrailerPlace) (b : ℕ) → StandsAt bytes line → is_empty_line line b ≡ false → HasNone bytes
     → HasNone (bytes ++ b ∷ [])
@@ -148,26 +129,15 @@ HasNone-push bytes line b stands goes_on none at ends =
       | inl last ↦
           let at_end : at + 4 ≡ length (bytes ++ b ∷ []) = omega arith in
           both_ways (is_empty_line line b) goes_on (ends_empty_line bytes line b stands (EndsLines-Ends (bytes ++ b ∷ []) at ends at_end))
-      | inr before ↦ none at (EndsLines-front bytes (b ∷ []) at before ends)
+      | inr before ↦ none at (EndsLines-before bytes (b ∷ []) at before ends)
     ]
 
 -- the first empty line ends with the byte
-pub IsFirstEnd-push : (bytes : List ℕ) (line : TrailerPlace) (b : ℕ) → StandsAt bytes line → is_empty_line line b ≡ true → HasNone bytes
+pub IsFirstEnd-empty_line : (bytes : List ℕ) (line : TrailerPlace) (b : ℕ) → StandsAt bytes line → is_empty_line line b ≡ true → HasNone bytes
     → IsFirstEnd (bytes ++ b ∷ []) 0 (length (bytes ++ b ∷ []))
-IsFirstEnd-push bytes line b stands ended none =
+IsFirstEnd-empty_line bytes line b stands ended none =
     let ends = empty_line_ends bytes line b stands ended in
-    let all = ap length ends.bytes_are ∙ length-append ends.front (13 ∷ 10 ∷ 13 ∷ 10 ∷ []) in
-    let longer = length-append bytes (b ∷ []) in
-    record {
-      at = length ends.front;
-      stop_is = all;
-      after = omega arith;
-      ends = Ends-EndsLines (bytes ++ b ∷ []) ends;
-      first = λ other from is. elim (cases_lt other (length ends.front)) [
-        | inl before ↦ absurd (none other (EndsLines-front bytes (b ∷ []) other (omega arith) is))
-        | inr later ↦ later
-      ];
-    }
+    IsFirstEnd-push bytes b (length ends.front) none (Ends-EndsLines (bytes ++ b ∷ []) ends)
 
 -- before the first empty line there is none
 pub HasNone-IsFirstEnd : (bytes : List ℕ) (b : ℕ) → IsFirstEnd (bytes ++ b ∷ []) 0 (length (bytes ++ b ∷ [])) → HasNone bytes

@@ -2,6 +2,8 @@
 use Rattle.std.proofs.Common.{◌≡◌, ℕ, ◌+◌, ◌<◌, true, false, ltb, List, [], ◌∷◌, ◌++◌, length, refl, sym, ap, ◌∙◌, subst, arith, append_assoc, append-nil, length-append, add-zero, inl, inr}
 use Rattle.std.proofs.lemmas.Bool.{cond-true, cond-false, lt-ltb, le-ltb, cases_Bool}
 use Rattle.httparse.specs.Ascii.{crlf_bytes}
+use Rattle.web_heads.proofs.EndLemmas.{HasNone, HasNone-front}
+use Rattle.web_heads.proofs.LastLemmas.{last_of}
 use Rattle.web_bodies.specs.declared.fault.BodyFault.TheVariants.{HeadTooLong}
 use Rattle.web_bodies.specs.declared.place.BodyPlace.{BodyPlace}
 use Rattle.web_bodies.specs.declared.place.BodyPlace.TheVariants.{Trailers, Over, Refused}
@@ -11,7 +13,7 @@ use Rattle.web_bodies.specs.Body.{Body}
 use Rattle.web_bodies.specs.Steps.{is_empty_line, trailer_step, trailers_place, step_at, body_step, awaits_payload}
 use Rattle.web_bodies.specs.Standard.{HasNoEmptyLine, IsTrailerSection}
 use Rattle.web_bodies.proofs.Leads.{Leads, leads_none, leads_one, leads_after_framing}
-use Rattle.web_bodies.proofs.TrailerEnds.{StandsAt, StandsAt-crlf, StandsAt-push, HasNone, HasNone-front, HasNone-push, HasNone-IsFirstEnd, IsFirstEnd-push, is_empty_line-IsFirstEnd, is_empty_line-HasNone}
+use Rattle.web_bodies.proofs.TrailerEnds.{StandsAt, StandsAt-crlf, StandsAt-push, HasNone-push, HasNone-IsFirstEnd, IsFirstEnd-empty_line, is_empty_line-IsFirstEnd, is_empty_line-HasNone}
 
 -- in a trailer section of which so many bytes have come
 abbrev pub in_trailers : ℕ → TrailerPlace → ℕ → Body
@@ -90,19 +92,6 @@ section_begun count trailers none short = section_on count [] trailers (section_
 
 -- ---- the end of a section
 
--- a list with at least one byte has a last one
-pub record HasLast (bytes : List ℕ) : Type 0 where
-  pub front : List ℕ
-  pub last : ℕ
-  pub bytes_are : bytes ≡ front ++ last ∷ []
-
-pub last_of : (bytes : List ℕ) → 0 < length bytes → HasLast bytes
-last_of [] some = absurd (omega arith)
-last_of (b ∷ []) some = record { front = []; last = b; bytes_are = refl }
-last_of (b ∷ c ∷ bytes) some =
-    let x = last_of (c ∷ bytes) (omega arith) in
-    record { front = b ∷ x.front; last = x.last; bytes_are = ap (λ (rest : List ℕ). b ∷ rest) x.bytes_are }
-
 ended_with : (count : ℕ) (front : List ℕ) (b : ℕ) → IsTrailerSection (front ++ b ∷ [])
     → Leads (in_trailers 0 LineStart count) (front ++ b ∷ []) [] (record { place = Over; count = count + length (front ++ b ∷ []); line = [] })
 ended_with count front b x =
@@ -161,7 +150,7 @@ section_goes trailers b none short =
     let run = section_begun 0 trailers none short in
     elim (cases_Bool (is_empty_line run.line b)) [
       | inl ended ↦ ends (record {
-        ends = IsFirstEnd-push (crlf_bytes ++ trailers) run.line b run.stands ended none;
+        ends = IsFirstEnd-empty_line (crlf_bytes ++ trailers) run.line b run.stands ended none;
         short = omega (arith, length-append trailers (b ∷ []));
       })
       | inr not_ended ↦ goes_on (HasNone-push (crlf_bytes ++ trailers) run.line b run.stands not_ended none)

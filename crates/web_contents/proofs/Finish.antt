@@ -1,6 +1,6 @@
 -- What the end of the connection makes of a body.
 use Rattle.std.proofs.Common.{◌≡◌, ◌≢◌, ℕ, ◌+◌, ◌-◌, eqb, ltb, inl, Bool, true, false, cond, List, [], ◌∷◌, ◌++◌, length, refl, sym, ap, ◌∙◌, subst, Option, Some, None, Result, Ok, Err}
-use Rattle.std.proofs.lemmas.Bool.{false≢true, cond_both}
+use Rattle.std.proofs.lemmas.Bool.{false≢true}
 use Rattle.web_heads.specs.declared.body.BodyKind.{BodyKind}
 use Rattle.web_heads.specs.declared.body.BodyKind.TheVariants.{Length, Chunks, ToEnd}
 use Rattle.web_heads.specs.ChunkLines.{most_chunk_line, chunk_size}
@@ -13,6 +13,7 @@ use Rattle.web_bodies.specs.declared.place.TrailerPlace.TheVariants.{LineStart}
 use Rattle.web_bodies.specs.Body.{Body, most_trailers}
 use Rattle.web_bodies.specs.Steps as bodies
 use Rattle.web_bodies.proofs.Runs as runs
+use Rattle.web_bodies.proofs.Ahead.{length_place-not_refused}
 use Rattle.web_bodies.proofs.Read.{bodies_are_read}
 use Rattle.web_frames.specs.declared.limits.Side.{Side}
 use Rattle.web_frames.specs.declared.limits.Side.TheVariants.{Response}
@@ -211,12 +212,8 @@ begin_ends (Length count) at = sym (first_else (Length count) at (λ e. cc))
 begin_ends Chunks at = sym (first_else Chunks at (λ e. cc))
 begin_ends ToEnd at = sym (first_to_end at)
 
-length_fine : (left : ℕ) (fault : BodyFault) → bodies.length_place left ≢ body.Refused fault
-unfolding bodies.length_place
-length_fine left fault = cond_both (eqb left 0) body.Over (body.DataByLength left) (λ (place : BodyPlace). place ≢ body.Refused fault) (λ e f. cc) (λ e f. cc)
-
 pub begin_fine : (kind : BodyKind) (at : ℕ) (fault : BodyFault) → (bodies.begin kind at).place ≢ body.Refused fault
 unfolding bodies.begin bodies.first_place
-begin_fine (Length count) at fault e = length_fine count fault e
+begin_fine (Length count) at fault e = length_place-not_refused count fault e
 begin_fine Chunks at fault e = cc
 begin_fine ToEnd at fault e = cc

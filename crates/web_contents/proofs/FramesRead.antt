@@ -14,7 +14,7 @@ use Rattle.web_frames.proofs.FrameLemmas.{stands_at, place_of, run_frames, GoesO
 use Rattle.web_frames.proofs.LawLemmas.{frames_are_read}
 use Rattle.web_contents.specs.Contents.{is_complete}
 use Rattle.web_contents.specs.Standard.{HasEnough, AreCutOff, AreFrames, BreaksOff}
-use Rattle.web_contents.proofs.Places.{IsGood}
+use Rattle.web_contents.proofs.Places.{IsGood, good_open}
 
 -- the machine after a payload without a fault, and what it told
 pub record Leaves (side : Side) (payload : List ℕ) (messages : List (List ℕ)) (trailers : Option Trailers) (complete : Bool) : Type 0 where
@@ -49,9 +49,6 @@ leaves_frames : (side : Side) (payload : List ℕ) (messages : List (List ℕ)) 
 leaves_frames side payload messages trailers frames =
     let read = run_frames side payload messages trailers frames in
     leaves_at side payload messages trailers (stands_at side (place_of side messages trailers)) read.0 refl (good_place side messages trailers) read.1
-
-good_open : IsGood Open
-good_open fault e = cc
 
 leaves_cut_off : (side : Side) (payload : List ℕ) (messages : List (List ℕ)) (trailers : Option Trailers) (cut : AreCutOff side payload messages trailers)
     → Leaves side payload messages trailers (is_complete (open_at side cut.part))

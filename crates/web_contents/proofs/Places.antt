@@ -49,7 +49,7 @@ by_body at good (body.Trailers count line) s = going_on good refl refl
 by_body at good body.Over s = over_by at good s (is_complete s) refl
 by_body at good (body.Refused fault) s = bad_body fault good refl refl
 
-good_open : IsGood frame.Open
+pub good_open : IsGood frame.Open
 good_open fault e = cc
 
 good_whole : IsGood frame.Whole

@@ -137,9 +137,6 @@ framing_else (body.Refused fault) available none some = refl
 pub not_over : (place : BodyPlace) → is_open place ≡ true → place ≢ body.Over
 not_over place going e = false≢true (sym (ap is_open e) ∙ going)
 
-pub not_refused : (place : BodyPlace) → is_open place ≡ true → (fault : BodyFault) → place ≢ body.Refused fault
-not_refused place going fault e = false≢true (sym (ap is_open e) ∙ going)
-
 -- a body that was refused
 pub refused_body : (old : Body) (piece : List ℕ) (new : Body) (fault : BodyFault) → body_calls.Refuses old piece new fault → new.place ≡ body.Refused fault
 refused_body old piece new (body_fault.BadChunk at) x = x.refused

@@ -3,6 +3,7 @@ use Rattle.std.proofs.Common.{◌≡◌, ◌≢◌, ℕ, ◌≤◌, List, [], �
 use Rattle.std.specs.Option.{option_to_list}
 use Rattle.std.proofs.lemmas.Bool.{cond-true, cond-false}
 use Rattle.std.proofs.lemmas.List.{length-append}
+use Rattle.web_heads.proofs.LastLemmas.{last_of}
 use Rattle.web_frames.specs.declared.limits.Side.{Side}
 use Rattle.web_frames.specs.declared.limits.Side.TheVariants.{Request, Response}
 use Rattle.web_frames.specs.declared.status.Trailers.{Trailers}
@@ -15,7 +16,7 @@ use Rattle.web_frames.specs.Machine.{frame, FrameState, Settled, told, is_traile
 use Rattle.web_frames.specs.Standard.{TrailersSay, IsTrailers, IsFrame, IsMessage, IsTrailersFrame, AreMessages, AreTrailers, Frames, GoesOn, IsBegun, events}
 use Rattle.web_frames.proofs.TrailerLemmas.{trailers_in-TrailersSay}
 use Rattle.web_frames.proofs.MachineLemmas.{after-nil, after-append, events_of-nil, events_of-append, open_at, SettlesNothing, after-held, events_of-held, after-settled, events_of-settled}
-use Rattle.web_frames.proofs.SettledLemmas.{settled_by-IsFrame, settled_by-IsBegun, is_trailers-true, is_trailers-false, frame_limit-small, frame-size_bytes}
+use Rattle.web_frames.proofs.SettledLemmas.{some_length, settled_by-IsFrame, settled_by-IsBegun, is_trailers-true, is_trailers-false, frame_limit-small, frame-size_bytes}
 
 -- ---- beginnings
 
@@ -30,21 +31,6 @@ append_one (c ∷ front) b e = cc
 -- every beginning of these bytes that is not the whole is a beginning of a frame
 abbrev pub BeginsFrame : Side → List ℕ → Type 0
 BeginsFrame side bytes = (front back : List ℕ) → bytes ≡ front ++ back → back ≢ [] → IsBegun side front
-
--- bytes have a last one
-pub record HasLast (bytes : List ℕ) : Type 0 where
-  pub front : List ℕ
-  pub last : ℕ
-  pub whole : bytes ≡ front ++ last ∷ []
-
-last_of : (b : ℕ) (bytes : List ℕ) → HasLast (b ∷ bytes)
-last_of b [] = record { front = []; last = b; whole = refl }
-last_of b (c ∷ bytes) =
-    let rest = last_of c bytes in record { front = b ∷ rest.front; last = rest.last; whole = ap (λ (back : List ℕ). b ∷ back) rest.whole }
-
-pub HasLast-some : (bytes : List ℕ) → bytes ≢ [] → HasLast bytes
-HasLast-some [] some = absurd (some refl)
-HasLast-some (b ∷ bytes) some = last_of b bytes
 
 -- a beginning of a frame is read and held
 begun_nothing : (side : Side) (bytes : List ℕ) → ((front back : List ℕ) → bytes ≡ front ++ back → IsBegun side front) → SettlesNothing side [] bytes
@@ -78,17 +64,17 @@ pub record Runs (side : Side) (bytes : List ℕ) : Type 0 where
 
 pub run : (side : Side) (bytes : List ℕ) → bytes ≢ [] → BeginsFrame side bytes → Runs side bytes
 run side bytes some begins =
-    let split = HasLast-some bytes some in
+    let split = last_of bytes (some_length bytes some) in
     let fronts : (front back : List ℕ) → split.front ≡ front ++ back → IsBegun side front = λ front back e.
-    begins front (back ++ split.last ∷ []) (split.whole ∙ ap (λ (first : List ℕ). first ++ split.last ∷ []) e ∙ append_assoc front back (split.last ∷ [])) (append_one back split.last) in
+    begins front (back ++ split.last ∷ []) (split.bytes_are ∙ ap (λ (first : List ℕ). first ++ split.last ∷ []) e ∙ append_assoc front back (split.last ∷ [])) (append_one back split.last) in
     let all = begun_nothing side split.front fronts in
     record {
       front = split.front;
       last = split.last;
-      whole = split.whole;
+      whole = split.bytes_are;
       held = after-held side [] split.front all;
-      state = ap (after (begin side)) split.whole ∙ after-settled side [] split.front split.last all ∙ ap (λ (b : List ℕ). state_of side b (settled_by side b)) (sym split.whole);
-      tells = ap (events_of (begin side)) split.whole ∙ events_of-settled side [] split.front split.last all ∙ ap (λ (b : List ℕ). option_to_list (event_of (settled_by side b))) (sym split.whole);
+      state = ap (after (begin side)) split.bytes_are ∙ after-settled side [] split.front split.last all ∙ ap (λ (b : List ℕ). state_of side b (settled_by side b)) (sym split.bytes_are);
+      tells = ap (events_of (begin side)) split.bytes_are ∙ events_of-settled side [] split.front split.last all ∙ ap (λ (b : List ℕ). option_to_list (event_of (settled_by side b))) (sym split.bytes_are);
     }
 
 -- ---- whole frames

@@ -40,9 +40,6 @@ IsLine-from_places (b ∷ c ∷ line) never =
 
 -- ---- the function
 
-before_lines-ends : (line : List ℕ) (lines : List (List ℕ)) → before_lines carriage_return ((line_feed ∷ line) ∷ lines) ≡ [] ∷ line ∷ lines
-before_lines-ends line lines = refl
-
 pub before_lines-kept : (b : ℕ) (line : List ℕ) (lines : List (List ℕ)) → IsLine (b ∷ line) → before_lines b (line ∷ lines) ≡ (b ∷ line) ∷ lines
 before_lines-kept b [] lines is = refl
 before_lines-kept b (c ∷ line) lines is =

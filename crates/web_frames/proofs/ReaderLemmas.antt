@@ -5,6 +5,7 @@ use Rattle.std.specs.Option.{option_to_list}
 use Rattle.std.proofs.lemmas.Bool.{cond-true, cond-false}
 use Rattle.std.proofs.lemmas.List.{take_all, take_at, take-append-le, drop-append-le, length-append, length-drop, length_push, drop_all, length-take-le, take-take, take-append-drop}
 use Rattle.std.proofs.Math.Seq.{take-add}
+use Rattle.web_heads.proofs.LastLemmas.{last_of}
 use Rattle.web_frames.specs.declared.limits.Side.{Side}
 use Rattle.web_frames.specs.declared.limits.Side.TheVariants.{Request, Response}
 use Rattle.web_frames.specs.declared.fault.FrameFault.{FrameFault}
@@ -20,7 +21,6 @@ use Rattle.web_frames.proofs.MachineLemmas.{after-nil, after-cons, after-append,
 use Rattle.web_frames.proofs.SettledLemmas as settled
 use Rattle.web_frames.proofs.SettledLemmas.{size_of}
 use Rattle.web_frames.proofs.ReadingLemmas.{flag_stands, part_of}
-use Rattle.web_frames.proofs.FrameLemmas.{HasLast-some}
 
 -- ---- nothing, and a fault
 
@@ -296,13 +296,13 @@ pub FeedsAll-last : (side : Side) (held bytes : List ℕ) (result : Result (Opti
     → 0 < length bytes → length bytes ≡ lacking held → Ends side (told_by (get_or held 0 0) (drop 5 held ++ bytes)) result new → FeedsAll (open_at side held) bytes result new
 FeedsAll-last side held bytes result new before many some all ends =
     let headed = IsHeaded-more side held before many in
-    let split = HasLast-some bytes (λ none. let l = ap length none in absurd (omega arith)) in
-    let size = ap length split.whole in
+    let split = last_of bytes some in
+    let size = ap length split.bytes_are in
     let few : length split.front < lacking held = omega (arith, length_push split.front split.last) in
-    subst (λ (b : List ℕ). FeedsAll (open_at side held) b result new) (sym split.whole)
+    subst (λ (b : List ℕ). FeedsAll (open_at side held) b result new) (sym split.bytes_are)
     (FeedsAll-Ends side held split.front split.last (told_by (get_or held 0 0) (drop 5 held ++ bytes)) result new
     (nothing_ahead side held split.front headed few)
-    (ap (λ (b : List ℕ). settled_by side (held ++ b)) (sym split.whole) ∙ settled_by-last side held bytes headed all)
+    (ap (λ (b : List ℕ). settled_by side (held ++ b)) (sym split.bytes_are) ∙ settled_by-last side held bytes headed all)
     ends)
 
 -- ---- pieces in parts
@@ -469,19 +469,6 @@ pub Took-event : (old : FrameState) (piece rest : List ℕ) (taken : ℕ) (now :
 Took-event old piece rest taken now count event new so_far rest_is takes =
     let both = joined old piece rest taken now count (Some event) new so_far rest_is takes in
     record { within = both.within; state = both.state; tells = both.tells; all = tt; first = both.first; goes_on = both.goes_on }
-
-open_goes_on : (place : FramePlace) → place ≡ Open → (fault : FrameFault) → place ≢ Refused fault
-open_goes_on place is_there fault e = let other : Open ≡ Refused fault = sym is_there ∙ e in cc
-
-pub Took-all : (old : FrameState) (piece : List ℕ) (taken : ℕ) (now : FrameState) → TakenSoFar old piece taken now → length piece ≤ taken → Took old piece taken None now
-Took-all old piece taken now so_far all = record {
-  within = so_far.within;
-  state = so_far.state;
-  tells = so_far.silent;
-  all = let within = so_far.within in omega arith;
-  first = tt;
-  goes_on = open_goes_on now.place so_far.place;
-}
 
 -- a fault of the rest is one of the piece
 stopped_behind : (old : FrameState) (piece rest : List ℕ) (taken : ℕ) (now : FrameState) (fault : FrameFault) (new : FrameState) → TakenSoFar old piece taken now

@@ -229,9 +229,6 @@ place_cut place line e =
     let same : h.0 ≡ place = omega (arith, h.1) in
     subst (λ (k : ℕ). (k < length line) × (cut colon line ≡ Some (take k line, drop (k + 1) line))) same (h.2, h.3)
 
-pub place-within : (place : ℕ) (line : List ℕ) → Some place ≡ position (λ b. eqb b colon) line → place < length line
-place-within place line e = (place_cut place line e).0
-
 pub value_of-no_colon : (name line : List ℕ) → None ≡ position (λ b. eqb b colon) line → value_of name line ≡ None
 unfolding value_of
 value_of-no_colon name line e =

@@ -5,7 +5,7 @@ use Rattle.web_head_reader.specs.declared.fault.HeadReadFault.TheVariants.{HeadT
 use Rattle.web_head_reader.specs.declared.place.HeadPlace.TheVariants.{Open, Whole}
 use Rattle.web_head_reader.specs.Steps.{HeadState, ends_head, state_of, step_at, head_step, after, refused_at}
 use Rattle.web_head_reader.specs.Standard.{HasNoEnd, HasHead, IsBegun, HasTooLong}
-use Rattle.web_head_reader.proofs.Ends.{HasNoEnd-push, IsFirstEnd-push, begun_not_whole, one_head, whole_not_full}
+use Rattle.web_head_reader.proofs.Ends.{HasNoEnd-push, IsFirstEnd-ends_head, begun_not_whole, one_head, whole_not_full}
 use Rattle.web_head_reader.proofs.Machine.{after-nil, after-cons, after-Whole, after-Refused}
 
 -- within a head of which these bytes have come, and after one
@@ -69,7 +69,7 @@ comes_ended front b bytes begun e =
     (record {
       rest = bytes;
       bytes_are = sym (append_assoc front (b ∷ []) bytes);
-      is_head = record { ends = IsFirstEnd-push front b begun.none e; short = omega arith };
+      is_head = record { ends = IsFirstEnd-ends_head front b begun.none e; short = omega arith };
     })
     (after-cons (open_at front) b bytes ∙ ap (λ (s : HeadState). after s bytes) (step-ends front b e)
     ∙ after-Whole (whole_at (front ++ b ∷ [])) bytes refl)

@@ -1,10 +1,10 @@
 -- The end of a head, by the last bytes.
-use Rattle.std.proofs.Common.{◌≡◌, ℕ, ◌+◌, ◌-◌, ◌≤◌, List, [], ◌∷◌, ◌++◌, length, take, drop, refl, sym, ap, ◌∙◌, subst, arith, inl, inr, Decides, true, length-append, length-drop}
+use Rattle.std.proofs.Common.{◌≡◌, ℕ, ◌+◌, ◌-◌, ◌≤◌, List, [], ◌∷◌, ◌++◌, length, take, drop, refl, sym, ap, ◌∙◌, subst, arith, inl, inr, Decides, true, length-append}
 use Rattle.std.proofs.lemmas.Bool.{cases_lt}
-use Rattle.std.proofs.lemmas.List.{drop-append-le, take-append-le, take_at}
+use Rattle.std.proofs.lemmas.List.{take_at}
 use Rattle.std.proofs.lemmas.Slice.Eq.{bytes_eq-Decides}
 use Rattle.web_heads.specs.HeadEnds.{EndsLines, IsFirstEnd}
-use Rattle.web_heads.proofs.EndLemmas.{EndsLines-within}
+use Rattle.web_heads.proofs.EndLemmas.{EndsLines-within, EndsLines-before, EndsLines-append, HasNone-front, IsFirstEnd-push}
 use Rattle.web_head_reader.specs.Steps.{ends_head}
 use Rattle.web_head_reader.specs.Standard.{HasNoEnd, IsHead, HasHead, IsBegun, IsTooLong}
 
@@ -12,21 +12,6 @@ use Rattle.web_head_reader.specs.Standard.{HasNoEnd, IsHead, HasHead, IsBegun, I
 pub ends_head-Decides : (bytes : List ℕ) → Decides (ends_head bytes) (EndsLines bytes (length bytes - 4))
 unfolding ends_head
 ends_head-Decides bytes = bytes_eq-Decides (take 4 (drop (length bytes - 4) bytes)) (13 ∷ 10 ∷ 13 ∷ 10 ∷ [])
-
--- what ends within the first bytes is there without those that follow, and with them
-pub EndsLines-before : (bytes more : List ℕ) (at : ℕ) → at + 4 ≤ length bytes → EndsLines (bytes ++ more) at → EndsLines bytes at
-EndsLines-before bytes more at within ends =
-    sym (ap (take 4) (drop-append-le at bytes more (omega arith))
-    ∙ take-append-le 4 (drop at bytes) more (omega (arith, length-drop at bytes)))
-    ∙ ends
-
-EndsLines-append : (bytes more : List ℕ) (at : ℕ) → EndsLines bytes at → EndsLines (bytes ++ more) at
-EndsLines-append bytes more at ends =
-    let within = EndsLines-within bytes at ends in
-    ap (take 4) (drop-append-le at bytes more (omega arith)) ∙ take-append-le 4 (drop at bytes) more (omega (arith, length-drop at bytes)) ∙ ends
-
-pub HasNoEnd-front : (bytes more : List ℕ) → HasNoEnd (bytes ++ more) → HasNoEnd bytes
-HasNoEnd-front bytes more none at ends = none at (EndsLines-append bytes more at ends)
 
 pub HasNoEnd-nil : HasNoEnd []
 HasNoEnd-nil at ends = let within = EndsLines-within [] at ends in absurd (omega arith)
@@ -46,22 +31,10 @@ HasNoEnd-push bytes b none goes_on at ends =
     ]
 
 -- or the head
-pub IsFirstEnd-push : (bytes : List ℕ) (b : ℕ) → HasNoEnd bytes → ends_head (bytes ++ b ∷ []) ≡ true
+pub IsFirstEnd-ends_head : (bytes : List ℕ) (b : ℕ) → HasNoEnd bytes → ends_head (bytes ++ b ∷ []) ≡ true
     → IsFirstEnd (bytes ++ b ∷ []) 0 (length (bytes ++ b ∷ []))
-IsFirstEnd-push bytes b none ended =
-    let ends = (ends_head-Decides (bytes ++ b ∷ [])).0 ended in
-    let within = EndsLines-within (bytes ++ b ∷ []) (length (bytes ++ b ∷ []) - 4) ends in
-    let longer = length-append bytes (b ∷ []) in
-    record {
-      at = length (bytes ++ b ∷ []) - 4;
-      stop_is = omega arith;
-      after = omega arith;
-      ends = ends;
-      first = λ other from is. elim (cases_lt other (length (bytes ++ b ∷ []) - 4)) [
-        | inl before ↦ absurd (none other (EndsLines-before bytes (b ∷ []) other (omega arith) is))
-        | inr later ↦ later
-      ];
-    }
+IsFirstEnd-ends_head bytes b none ended =
+    IsFirstEnd-push bytes b (length (bytes ++ b ∷ []) - 4) none ((ends_head-Decides (bytes ++ b ∷ [])).0 ended)
 
 -- ---- heads
 
@@ -83,7 +56,7 @@ pub IsTooLong-front : (front : List ℕ) (b : ℕ) (back : List ℕ) → IsTooLo
 IsTooLong-front front b back x =
     let longer = length-append front (b ∷ back) in
     let limit = x.full in
-    record { none = HasNoEnd-front front (b ∷ back) x.none; short = omega arith }
+    record { none = HasNone-front front (b ∷ back) x.none; short = omega arith }
 
 -- the first end in the bytes is that of the head at their beginning
 pub IsHead-IsFirstEnd : (head rest : List ℕ) → IsHead head → IsFirstEnd (head ++ rest) 0 (length head)

@@ -2,27 +2,21 @@
 use Rattle.std.proofs.Common.{◌≡◌, ℕ, ◌+◌, ◌-◌, ◌<◌, ◌≤◌, List, [], ◌∷◌, ◌++◌, length, take, drop, get_or, refl, sym, ap, ◌∙◌, subst, arith, append_assoc, append-nil, length-append, length-take-le, take-append-drop, inl, inr}
 use Rattle.std.proofs.Math.Seq.{drop-cons}
 use Rattle.std.proofs.lemmas.Bool.{cases_lt}
-use Rattle.std.proofs.lemmas.List.{take-append-le, take_all}
+use Rattle.std.proofs.lemmas.List.{take_all, take-take}
 use Rattle.std.proofs.Math.Seq.{take-append-add}
 use Rattle.web_heads.specs.HeadEnds.{EndsLines, IsFirstEnd}
-use Rattle.web_heads.proofs.EndLemmas.{EndsLines-within, goes_on_found, goes_on_none}
+use Rattle.web_heads.proofs.EndLemmas.{EndsLines-within, EndsLines-before, HasNone-front, goes_on_found, goes_on_none}
 use Rattle.web_head_reader.specs.declared.fault.HeadReadFault.{HeadReadFault}
 use Rattle.web_head_reader.specs.declared.fault.HeadReadFault.TheVariants.{HeadTooLong, OutOfMemory}
 use Rattle.web_head_reader.specs.declared.place.HeadPlace.TheVariants.{Open, Whole, Refused}
 use Rattle.web_head_reader.specs.Steps.{HeadState, after, refused_at}
 use Rattle.web_head_reader.specs.Standard.{HasNoEnd, IsHead, IsBegun, HasTooLong}
 use Rattle.web_head_reader.specs.Calls.{Takes, IsFaulty, Refuses}
-use Rattle.web_head_reader.proofs.Ends.{EndsLines-before, HasNoEnd-front, IsHead-front, IsFirstEnd-IsHead}
+use Rattle.web_head_reader.proofs.Ends.{IsHead-front, IsFirstEnd-IsHead}
 use Rattle.web_head_reader.proofs.Machine.{after-nil, after-Refused}
 use Rattle.web_head_reader.proofs.Comes.{open_at, whole_at, after_begun, after_whole, after_long}
 
 -- ---- beginnings of a piece
-
--- fewer bytes of a piece are the first of more
-take_fewer : (fewer count : ℕ) (piece : List ℕ) → fewer ≤ count → count ≤ length piece → take fewer (take count piece) ≡ take fewer piece
-take_fewer fewer count piece less within =
-    let all = length-take-le count piece within in
-    sym (take-append-le fewer (take count piece) (drop count piece) (omega arith)) ∙ ap (take fewer) (take-append-drop count piece)
 
 IsBegun-prefix : (front bytes : List ℕ) (fewer : ℕ) → IsBegun (front ++ bytes) → fewer ≤ length bytes → IsBegun (front ++ take fewer bytes)
 IsBegun-prefix front bytes fewer x less =
@@ -31,7 +25,7 @@ IsBegun-prefix front bytes fewer x less =
     let longer = ap length parts in
     let sum = length-append (front ++ take fewer bytes) (drop fewer bytes) in
     let short = x.short in
-    record { none = HasNoEnd-front (front ++ take fewer bytes) (drop fewer bytes) (subst HasNoEnd (sym parts) x.none); short = omega arith }
+    record { none = HasNone-front (front ++ take fewer bytes) (drop fewer bytes) (subst HasNoEnd (sym parts) x.none); short = omega arith }
 
 IsHead-prefix : (front bytes : List ℕ) (fewer : ℕ) → IsHead (front ++ bytes) → fewer < length bytes → IsBegun (front ++ take fewer bytes)
 IsHead-prefix front bytes fewer x less =
@@ -82,7 +76,7 @@ takes_head held piece head count begun head_is within x =
           (record { rest = []; bytes_are = sym (append-nil head ∙ head_is); is_head = subst IsHead (sym head_is) x }));
       ends = inr refl;
       first = λ fewer less.
-          rw (← take_fewer fewer count piece (omega arith) within)
+          rw (← take-take fewer count piece (omega arith))
           (open_place held (take fewer part) begun (IsHead-prefix held part fewer x (omega arith)));
       not_refused = λ fault e. cc;
     }
@@ -106,7 +100,7 @@ takes_end held piece items count stop begun items_are within short x =
     = ap (λ (all : List ℕ). take stop all) items_are
     ∙ ap (λ (n : ℕ). take n (held ++ take count piece)) (let n : stop ≡ length held + (stop - length held) = omega arith in n)
     ∙ take-append-add held (take count piece) (stop - length held)
-    ∙ ap (λ (part : List ℕ). held ++ part) (take_fewer (stop - length held) count piece some within) in
+    ∙ ap (λ (part : List ℕ). held ++ part) (take-take (stop - length held) count piece some) in
     let part = take (stop - length held) piece in
     let length_is : length (held ++ part) ≡ stop
     = length-append held part ∙ ap (λ (n : ℕ). length held + n) (length-take-le (stop - length held) piece (omega arith))

@@ -5,11 +5,12 @@ use Rattle.std.specs.Char.{is_ascii_hexdigit}
 use Rattle.std.proofs.lemmas.Bool.{and_parts, and_from, eqb-true, ltb-true, lt-ltb, leb-true, le-leb, cond-true, cond-false}
 use Rattle.std.proofs.lemmas.Bool.Decides.{nat_tests}
 use Rattle.std.proofs.lemmas.List.Elements.{All-head, All-tail, All-cons, All-nil}
+use Rattle.std.proofs.lemmas.List.Sums.{AllPass-from_list_all, list_all-from_AllPass}
 use Rattle.httparse.specs.Grammar.{LineEnd, crlf, lf, print_end, AllPass, ChunkLine, IsChunkLine, print_chunk_line, print_extension, IsExtension, ReadsChunkLine, is_ows, is_extension_byte}
 use Rattle.web_heads.specs.Lines.{Line, lines_bytes, lines_of}
 use Rattle.web_heads.specs.Texts.{run}
 use Rattle.web_heads.specs.ChunkLines.{extension_of, chunk_text, text_of_line, only_chunk_line, chunk_line_of}
-use Rattle.web_heads.proofs.StepLemmas.{AllPass-list_all, list_all-AllPass, LacksByte, none, other, LacksByte-AllPass, LacksByte-append, found_after, chosen}
+use Rattle.web_heads.proofs.StepLemmas.{LacksByte, none, other, LacksByte-AllPass, LacksByte-append, found_after, chosen}
 use Rattle.web_heads.proofs.LineLemmas.{lines_of-line, lines_of-nil, lines_bytes-lines_of}
 
 -- ---- runs
@@ -57,14 +58,14 @@ extension_of-Some (b ∷ text) e is =
           let tests = and_parts (eqb b 59) (list_all is_extension_byte text) h.0 in
           let some_is : e ≡ Some text = cc in
           let semicolon = eqb-true b 59 tests.0 in
-          rw some_is (AllPass-list_all is_extension_byte text tests.1, ap (λ (first : ℕ). first ∷ text) semicolon)
+          rw some_is (AllPass-from_list_all is_extension_byte text tests.1, ap (λ (first : ℕ). first ∷ text) semicolon)
       | inr h ↦ absurd (cc)
     ]
 
 extension_of-print_extension : (e : Option (List ℕ)) → IsExtension e → extension_of (print_extension e) ≡ Some e
 extension_of-print_extension None valid = refl
 extension_of-print_extension (Some text) valid =
-    cond-true (list_all is_extension_byte text) (Some (Some text)) None (list_all-AllPass is_extension_byte text valid)
+    cond-true (list_all is_extension_byte text) (Some (Some text)) None (list_all-from_AllPass is_extension_byte text valid)
 
 print_extension-Ends : (test : ℕ → Bool) → test 59 ≡ false → (e : Option (List ℕ)) → Ends test (print_extension e)
 print_extension-Ends test fails None = over

@@ -1,7 +1,7 @@
 -- A head's meaning is that of the tree which its spans were read from.
 use Rattle.std.proofs.Common.{◌≡◌, ℕ, Bool, true, false, List, take, map, sym, ap, ◌∙◌, Some, None, Err}
 use Rattle.std.specs.Prelude.{nat_lt}
-use Rattle.std.proofs.lemmas.Bool.{cond-true, cond-false}
+use Rattle.std.proofs.lemmas.Bool.{both_ways, false_from_ne_true, ltb-true, lt-ltb, cond-true, cond-false}
 use Rattle.httparse.specs.declared.spans.HeaderSpan.{HeaderSpan}
 use Rattle.httparse.specs.declared.spans.RequestSpans.{RequestSpans}
 use Rattle.httparse.specs.declared.spans.ResponseSpans.{ResponseSpans}
@@ -12,10 +12,17 @@ use Rattle.web_heads.specs.Trees.{most_fields, request_tree, response_tree}
 use Rattle.web_heads.specs.Fields.{NameValue, inner_lines}
 use Rattle.web_heads.specs.Requests.{request_of, request_of_tree, request_head}
 use Rattle.web_heads.specs.Responses.{response_of, response_of_tree, response_head}
+use Rattle.web_heads.specs.Standard.{HasManyLines}
 
 -- too many lines
 abbrev pub is_long : List ℕ → Bool
 is_long bytes = nat_lt most_fields (inner_lines bytes)
+
+pub not_many : (bytes : List ℕ) → is_long bytes ≡ false → ¬ (HasManyLines bytes)
+not_many bytes short many = both_ways (is_long bytes) short (lt-ltb most_fields (inner_lines bytes) many)
+
+pub is_short : (bytes : List ℕ) → ¬ (HasManyLines bytes) → is_long bytes ≡ false
+is_short bytes few = false_from_ne_true (is_long bytes) (λ long. few (ltb-true most_fields (inner_lines bytes) long))
 
 -- ---- requests
 

@@ -7,6 +7,7 @@ pub mod ResponseLemmas
 pub mod ChunkLemmas
 pub mod Answered
 pub mod EndLemmas
+pub mod LastLemmas
 pub mod FieldLemmas
 pub mod NumberLemmas
 pub mod HeadLemmas

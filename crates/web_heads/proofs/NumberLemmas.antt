@@ -8,10 +8,11 @@ use Rattle.std.proofs.lemmas.Bool.Decides.{nat_tests}
 use Rattle.std.proofs.lemmas.List.Elements.{All-get_or}
 use Rattle.std.proofs.lemmas.Int.Digits.{digits_value_more}
 use Rattle.std.proofs.lemmas.Str.Parse.{digits_value-take-le}
+use Rattle.std.proofs.lemmas.List.Sums.{AllPass-from_list_all, list_all-from_AllPass}
 use Rattle.httparse.specs.Grammar.{AllPass}
 use Rattle.web_heads.specs.Texts.{decimal_of}
 use Rattle.web_heads.specs.Standard.{IsDecimal}
-use Rattle.web_heads.proofs.StepLemmas.{AllPass-list_all, list_all-AllPass, chosen}
+use Rattle.web_heads.proofs.StepLemmas.{chosen}
 
 -- the value of an ASCII digit
 pub digit_value-digit : (b : ℕ) → 48 ≤ b → b ≤ 57 → digit_value b ≡ b - 48
@@ -26,7 +27,7 @@ unfolding decimal_of
 decimal_of-Some text most some pass fits =
     sym (cond-true (ltb 0 (length text) && list_all is_ascii_digit text && leb (digits_value 10 text) most) (Some (digits_value 10 text)) None
     (and_from (ltb 0 (length text) && list_all is_ascii_digit text) (leb (digits_value 10 text) most)
-    (and_from (ltb 0 (length text)) (list_all is_ascii_digit text) (lt-ltb 0 (length text) some) (list_all-AllPass is_ascii_digit text pass))
+    (and_from (ltb 0 (length text)) (list_all is_ascii_digit text) (lt-ltb 0 (length text) some) (list_all-from_AllPass is_ascii_digit text pass))
     (le-leb (digits_value 10 text) most fits)))
 
 pub decimal_of-None : (text : List ℕ) (most : ℕ) → (0 < length text → AllPass is_ascii_digit text → digits_value 10 text ≤ most → ⊥)
@@ -37,7 +38,7 @@ decimal_of-None text most never =
     sym (cond-false test (Some (digits_value 10 text)) None (false_from_ne_true test λ holds.
     let parts = and_parts (ltb 0 (length text) && list_all is_ascii_digit text) (leb (digits_value 10 text) most) holds in
     let front = and_parts (ltb 0 (length text)) (list_all is_ascii_digit text) parts.0 in
-    never (ltb-true 0 (length text) front.0) (AllPass-list_all is_ascii_digit text front.1) (leb-true (digits_value 10 text) most parts.1)))
+    never (ltb-true 0 (length text) front.0) (AllPass-from_list_all is_ascii_digit text front.1) (leb-true (digits_value 10 text) most parts.1)))
 
 -- one digit more
 pub digits_value-digit : (text : List ℕ) (i b : ℕ) → i < length text → b ≡ get_or text i 0 → is_ascii_digit b ≡ true
@@ -64,7 +65,7 @@ decimal_of-says text most number e =
           let parts = and_parts (ltb 0 (length text) && list_all is_ascii_digit text) (leb (digits_value 10 text) most) h.0 in
           let front = and_parts (ltb 0 (length text)) (list_all is_ascii_digit text) parts.0 in
           let is : digits_value 10 text ≡ number = cc in (
-            record { some = ltb-true 0 (length text) front.0; digits = AllPass-list_all is_ascii_digit text front.1; value = sym is },
+            record { some = ltb-true 0 (length text) front.0; digits = AllPass-from_list_all is_ascii_digit text front.1; value = sym is },
             rw is at (leb-true (digits_value 10 text) most parts.1),
           )
       | inr h ↦ absurd (cc)

@@ -5,13 +5,14 @@ use Rattle.std.specs.List.{list_all}
 use Rattle.std.specs.Str.{is_utf8}
 use Rattle.std.proofs.lemmas.Bool.{and_parts, and_from, ltb-true, lt-ltb, leb-true, le-leb, ne_eqb, cond-true, cond-false}
 use Rattle.std.proofs.lemmas.Str.{IsUtf8-from_is_utf8, is_utf8-from_IsUtf8}
+use Rattle.std.proofs.lemmas.List.Sums.{AllPass-from_list_all, list_all-from_AllPass}
 use Rattle.httparse.specs.Grammar.{LineEnd, print_end, print_blank, print_version, print_section, is_token_byte, is_uri_byte, AllPass, IsToken, is_token, RequestHead, IsRequestHead, ReadsRequest}
 use Rattle.httparse.proofs.PieceLemmas.{space_ends_token}
 use Rattle.httparse.proofs.GrammarLemmas.{print_request-append, cons-append}
 use Rattle.web_heads.specs.Lines.{Line, lines_bytes, lines_of}
 use Rattle.web_heads.specs.Texts.{is_empty, cut}
 use Rattle.web_heads.specs.Trees.{most_fields, section_of, version_of, is_target, request_line_of, request_from, request_lines, request_tree}
-use Rattle.web_heads.proofs.StepLemmas.{AllPass-list_all, list_all-AllPass, LacksByte, other, LacksByte-AllPass, LacksByte-append, found_after, found_map, chosen}
+use Rattle.web_heads.proofs.StepLemmas.{LacksByte, other, LacksByte-AllPass, LacksByte-append, found_after, found_map, chosen}
 use Rattle.web_heads.proofs.LineLemmas.{lines_of-line, lines_bytes-lines_of}
 use Rattle.web_heads.proofs.TextLemmas.{cut-Some, cut-append, nil-is_empty}
 use Rattle.web_heads.proofs.TreeLemmas.{cr_ends_token, lf_ends_token, IsToken-is_token, is_token-IsToken, section_lines, lines_of-print_section, section_of-section_lines, section_of-Some, version_of-Some, version_of-print_version, print_version-lacks, blank_lines, lines_of-print_blank}
@@ -47,7 +48,7 @@ request_line_of-Some text r e =
           let version = version_of-Some q.0.1 minor v.1 in
           subst (λ (s : List ℕ × (List ℕ × ℕ)). ReadsStart text s.0 s.1.0 s.1.1) (sym is) (record {
             method_is = IsToken-is_token method tests.0;
-            target_is = (ltb-true 0 (length target) parts.0, AllPass-list_all is_uri_byte target parts.1);
+            target_is = (ltb-true 0 (length target) parts.0, AllPass-from_list_all is_uri_byte target parts.1);
             target_text = IsUtf8-from_is_utf8 target visible.1;
             minor_is = version.0;
             text_is =
@@ -150,7 +151,7 @@ request_line_of-start_text method target minor token some visible text small =
     ) (cond-true (is_token method && is_target target) (Some (method, (target, minor))) None
     (and_from (is_token method) (is_target target) (is_token-IsToken method token)
     (and_from (ltb 0 (length target) && list_all is_uri_byte target) (is_utf8 target)
-    (and_from (ltb 0 (length target)) (list_all is_uri_byte target) (lt-ltb 0 (length target) some) (list_all-AllPass is_uri_byte target visible))
+    (and_from (ltb 0 (length target)) (list_all is_uri_byte target) (lt-ltb 0 (length target) some) (list_all-from_AllPass is_uri_byte target visible))
     (is_utf8-from_IsUtf8 target text))))
 
 request_from-lines : (l : Line) (lines : List Line) (h : RequestHead) → request_line_of l.text ≡ Some (h.method, (h.target, h.minor))

@@ -1,7 +1,7 @@
 -- The function of a request's head says what the standard says, both ways.
 use Rattle.std.proofs.Common.{◌≡◌, ◌≢◌, ℕ, Bool, true, false, List, refl, sym, ap, ◌∙◌, subst, Option, Some, None, Result, Ok, Err, ◌⊎◌, inl, inr, codes}
 use Rattle.std.specs.Str.{bytes_eq}
-use Rattle.std.proofs.lemmas.Bool.{cases_Bool, both_ways, false_from_ne_true, ltb-true, lt-ltb, cond-true, cond-false}
+use Rattle.std.proofs.lemmas.Bool.{cases_Bool, false_from_ne_true, ltb-true, lt-ltb, cond-true, cond-false}
 use Rattle.std.proofs.lemmas.Bool.Decides.{not_from_Decides}
 use Rattle.std.proofs.lemmas.Slice.Eq.{bytes_eq-Decides}
 use Rattle.httparse.specs.Grammar as grammar
@@ -13,9 +13,9 @@ use Rattle.web_heads.specs.declared.request.RequestHead.{RequestHead}
 use Rattle.web_heads.specs.Trees.{most_fields, request_tree}
 use Rattle.web_heads.specs.Fields.{values, has_grpc_type, framing, inner_lines}
 use Rattle.web_heads.specs.Requests.{request_to, request_of, request_of_tree, request_head}
-use Rattle.web_heads.specs.Standard.{HasGrpcType, FramesAs, FramesBadly, HasManyLines, IsRequestText, request_fields, IsRequest, RequestSays}
+use Rattle.web_heads.specs.Standard.{HasGrpcType, FramesAs, FramesBadly, IsRequestText, request_fields, IsRequest, RequestSays}
 use Rattle.web_heads.proofs.RequestLemmas as tree
-use Rattle.web_heads.proofs.HeadLemmas.{is_long, request_head-long, request_head-short, request_head-none}
+use Rattle.web_heads.proofs.HeadLemmas.{is_long, not_many, is_short, request_head-long, request_head-short, request_head-none}
 use Rattle.web_heads.proofs.SaidLemmas.{has_grpc_type-Decides, framed_option, FramingSays, framed-says, framed-IsFramed, framed-IsBadlyFramed}
 
 abbrev is_post : grammar.RequestHead → Bool
@@ -69,9 +69,6 @@ meaning_says bytes h text =
       | inr other ↦ subst (RequestSays bytes) (sym (meaning-other h other)) (h, text, not_from_Decides _ post other)
     ]
 
-not_many : (bytes : List ℕ) → is_long bytes ≡ false → ¬ (HasManyLines bytes)
-not_many bytes short many = both_ways (is_long bytes) short (lt-ltb most_fields (inner_lines bytes) many)
-
 pub sound : (bytes : List ℕ) → RequestSays bytes (request_head bytes)
 sound bytes = elim (cases_Bool (is_long bytes)) [
   | inl long ↦ subst (RequestSays bytes) (sym (request_head-long bytes long)) (ltb-true most_fields (inner_lines bytes) long)
@@ -86,9 +83,6 @@ sound bytes = elim (cases_Bool (is_long bytes)) [
         meaning_says bytes h (record { short = not_many bytes short; reads = x.0; few = x.1 })
 
 -- ---- what is said is given
-
-is_short : (bytes : List ℕ) → ¬ (HasManyLines bytes) → is_long bytes ≡ false
-is_short bytes few = false_from_ne_true (is_long bytes) (λ long. few (ltb-true most_fields (inner_lines bytes) long))
 
 request_head-meaning : (bytes : List ℕ) (h : grammar.RequestHead) → IsRequestText bytes h → request_head bytes ≡ meaning h
 request_head-meaning bytes h text =

@@ -4,12 +4,13 @@ use Rattle.std.specs.Prelude.{option_map}
 use Rattle.std.specs.List.{list_all}
 use Rattle.std.specs.Char.{is_ascii_digit}
 use Rattle.std.proofs.lemmas.Bool.{and_parts, and_from, eqb-true, eq-eqb, leb-true, le-leb, ne_eqb, cond-true, cond-false}
+use Rattle.std.proofs.lemmas.List.Sums.{AllPass-from_list_all, list_all-from_AllPass}
 use Rattle.httparse.specs.Grammar.{LineEnd, print_end, print_blank, print_version, print_section, print_reason, reason_phrase, is_value_byte, AllPass, ResponseHead, IsResponseHead, ReadsResponse}
 use Rattle.httparse.proofs.GrammarLemmas.{print_response-append}
 use Rattle.web_heads.specs.Lines.{Line, lines_bytes, lines_of}
 use Rattle.web_heads.specs.Texts.{is_empty, cut}
 use Rattle.web_heads.specs.Trees.{most_fields, section_of, version_of, is_code, with_phrase, status_line_of, response_from, response_lines, response_tree}
-use Rattle.web_heads.proofs.StepLemmas.{AllPass-list_all, list_all-AllPass, LacksByte, none, other, LacksByte-AllPass, LacksByte-append, found_after, found_map, chosen}
+use Rattle.web_heads.proofs.StepLemmas.{LacksByte, none, other, LacksByte-AllPass, LacksByte-append, found_after, found_map, chosen}
 use Rattle.web_heads.proofs.LineLemmas.{lines_of-line, lines_bytes-lines_of}
 use Rattle.web_heads.proofs.TextLemmas.{cut-Some, cut-append, cut-None, nil-is_empty}
 use Rattle.web_heads.proofs.TreeLemmas.{section_lines, lines_of-print_section, section_of-section_lines, section_of-Some, version_of-Some, version_of-print_version, print_version-lacks, blank_lines, lines_of-print_blank}
@@ -46,8 +47,8 @@ status_line_of-Some text r e =
           let version = version_of-Some p.0.0 minor v.1 in
           subst (λ (s : ℕ × (List ℕ × Option (List ℕ))). ReadsStatus text s.0 s.1.0 s.1.1) (sym is) (record {
             minor_is = version.0;
-            digits_are = (eqb-true (length code.0) 3 digits.0, AllPass-list_all is_ascii_digit code.0 digits.1);
-            reason_is = AllPass-list_all is_value_byte (reason_phrase code.1) tests.1;
+            digits_are = (eqb-true (length code.0) 3 digits.0, AllPass-from_list_all is_ascii_digit code.0 digits.1);
+            reason_is = AllPass-from_list_all is_value_byte (reason_phrase code.1) tests.1;
             text_is =
                 cut-Some 32 text p.0.0 p.0.1 p.1
                 ∙ ap (λ (front : List ℕ). front ++ 32 ∷ p.0.1) version.1
@@ -151,8 +152,8 @@ status_line_of-status_text minor digits reason small three pass phrase =
       cut-phrase digits reason pass,
     ) (cond-true (is_code digits && list_all is_value_byte (reason_phrase reason)) (Some (minor, (digits, reason))) None
     (and_from (is_code digits) (list_all is_value_byte (reason_phrase reason))
-    (and_from (eqb (length digits) 3) (list_all is_ascii_digit digits) (eq-eqb (length digits) 3 three) (list_all-AllPass is_ascii_digit digits pass))
-    (list_all-AllPass is_value_byte (reason_phrase reason) phrase)))
+    (and_from (eqb (length digits) 3) (list_all is_ascii_digit digits) (eq-eqb (length digits) 3 three) (list_all-from_AllPass is_ascii_digit digits pass))
+    (list_all-from_AllPass is_value_byte (reason_phrase reason) phrase)))
 
 response_from-lines : (l : Line) (lines : List Line) (h : ResponseHead) → status_line_of l.text ≡ Some (h.minor, (h.digits, h.reason))
     → section_of lines ≡ Some (h.fields, h.last) → l.ending ≡ h.line_end → response_from l lines ≡ Some (record h { blank = [] })

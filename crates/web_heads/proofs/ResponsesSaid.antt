@@ -12,9 +12,9 @@ use Rattle.web_heads.specs.declared.response.ResponseHead.{ResponseHead}
 use Rattle.web_heads.specs.Trees.{most_fields, response_tree}
 use Rattle.web_heads.specs.Fields.{values, has_grpc_type, framing, inner_lines}
 use Rattle.web_heads.specs.Responses.{response_with, response_of, response_of_tree, response_head}
-use Rattle.web_heads.specs.Standard.{HasGrpcType, HasManyLines, IsResponseText, response_fields, IsResponse, ResponseSays}
+use Rattle.web_heads.specs.Standard.{HasGrpcType, IsResponseText, response_fields, IsResponse, ResponseSays}
 use Rattle.web_heads.proofs.ResponseLemmas as tree
-use Rattle.web_heads.proofs.HeadLemmas.{is_long, response_head-long, response_head-short, response_head-none}
+use Rattle.web_heads.proofs.HeadLemmas.{is_long, not_many, is_short, response_head-long, response_head-short, response_head-none}
 use Rattle.web_heads.proofs.SaidLemmas.{has_grpc_type-Decides, framed_option, FramingSays, framed-says, framed-IsFramed, framed-IsBadlyFramed}
 
 abbrev meaning : grammar.ResponseHead → Result ResponseHead HeadFault
@@ -75,9 +75,6 @@ meaning_says bytes h text =
           (framed-says (values (codes "content-length") fields) (values (codes "transfer-encoding") fields)))
     ]
 
-not_many : (bytes : List ℕ) → is_long bytes ≡ false → ¬ (HasManyLines bytes)
-not_many bytes short many = both_ways (is_long bytes) short (lt-ltb most_fields (inner_lines bytes) many)
-
 pub sound : (bytes : List ℕ) → ResponseSays bytes (response_head bytes)
 sound bytes = elim (cases_Bool (is_long bytes)) [
   | inl long ↦ subst (ResponseSays bytes) (sym (response_head-long bytes long)) (ltb-true most_fields (inner_lines bytes) long)
@@ -92,9 +89,6 @@ sound bytes = elim (cases_Bool (is_long bytes)) [
         meaning_says bytes h (record { short = not_many bytes short; reads = x.0; few = x.1 })
 
 -- ---- what is said is given
-
-is_short : (bytes : List ℕ) → ¬ (HasManyLines bytes) → is_long bytes ≡ false
-is_short bytes few = false_from_ne_true (is_long bytes) (λ long. few (ltb-true most_fields (inner_lines bytes) long))
 
 response_head-meaning : (bytes : List ℕ) (h : grammar.ResponseHead) → IsResponseText bytes h → response_head bytes ≡ meaning h
 response_head-meaning bytes h text =

@@ -1,18 +1,9 @@
 -- Tests of bytes, as facts, and steps that found something.
 use Rattle.std.proofs.Common.{◌≡◌, ◌≢◌, ℕ, Bool, true, false, cond, List, [], ◌∷◌, ◌++◌, refl, sym, ap, ◌∙◌, Option, Some, None, ◌⊎◌, inl, inr}
 use Rattle.std.specs.Prelude.{option_map, option_and_then}
-use Rattle.std.specs.List.{list_all}
 use Rattle.std.proofs.lemmas.Bool.{false≢true}
-use Rattle.std.proofs.lemmas.Bool.Decides.{Decides-by_and}
 use Rattle.std.proofs.lemmas.List.Elements.{All-head, All-tail}
 use Rattle.httparse.specs.Grammar.{AllPass}
-
--- each byte passes the test: as a computed test, and as a fact
-pub AllPass-list_all : (test : ℕ → Bool) (bytes : List ℕ) → list_all test bytes ≡ true → AllPass test bytes
-AllPass-list_all test bytes = (Decides-by_and test (λ b. test b ≡ true) (list_all test) (λ b. (λ e. e, λ e. e)) refl (λ _ _. refl) bytes).0
-
-pub list_all-AllPass : (test : ℕ → Bool) (bytes : List ℕ) → AllPass test bytes → list_all test bytes ≡ true
-list_all-AllPass test bytes = (Decides-by_and test (λ b. test b ≡ true) (list_all test) (λ b. (λ e. e, λ e. e)) refl (λ _ _. refl) bytes).1
 
 -- no byte of the list is this one
 pub data LacksByte (stop : ℕ) : List ℕ → Type 0 where

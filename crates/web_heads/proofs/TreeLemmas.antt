@@ -6,12 +6,13 @@ use Rattle.std.specs.Str.{bytes_eq}
 use Rattle.std.proofs.lemmas.Bool.{and_parts, and_from, ltb-true, lt-ltb, cond-true}
 use Rattle.std.proofs.lemmas.List.Elements.{All-cons, All-nil, All-head, All-tail}
 use Rattle.std.proofs.lemmas.Slice.Eq.{bytes_eq-Decides}
+use Rattle.std.proofs.lemmas.List.Sums.{AllPass-from_list_all, list_all-from_AllPass}
 use Rattle.httparse.specs.Grammar.{LineEnd, print_end, print_blank, print_version, Field, print_field, IsField, print_section, is_token_byte, is_value_byte, IsToken, is_token}
 use Rattle.httparse.proofs.PieceLemmas.{colon_ends_token}
 use Rattle.web_heads.specs.Lines.{Line, lines_bytes, lines_of}
 use Rattle.web_heads.specs.Texts.{is_empty, cut}
 use Rattle.web_heads.specs.Trees.{field_of, section_of, version_of}
-use Rattle.web_heads.proofs.StepLemmas.{AllPass-list_all, list_all-AllPass, LacksByte, none, other, LacksByte-AllPass, LacksByte-append, found_after, chosen}
+use Rattle.web_heads.proofs.StepLemmas.{LacksByte, none, other, LacksByte-AllPass, LacksByte-append, found_after, chosen}
 use Rattle.web_heads.proofs.LineLemmas.{lines_of-line, lines_of-nil}
 use Rattle.web_heads.proofs.TextLemmas.{cut-Some, cut-append, nil-is_empty}
 
@@ -28,11 +29,11 @@ lf_ends_token = refl
 pub IsToken-is_token : (bytes : List ℕ) → is_token bytes ≡ true → IsToken bytes
 IsToken-is_token bytes e =
     let p = and_parts (ltb 0 (length bytes)) (list_all is_token_byte bytes) e in
-    (ltb-true 0 (length bytes) p.0, AllPass-list_all is_token_byte bytes p.1)
+    (ltb-true 0 (length bytes) p.0, AllPass-from_list_all is_token_byte bytes p.1)
 
 pub is_token-IsToken : (bytes : List ℕ) → IsToken bytes → is_token bytes ≡ true
 is_token-IsToken bytes t =
-    and_from (ltb 0 (length bytes)) (list_all is_token_byte bytes) (lt-ltb 0 (length bytes) t.0) (list_all-AllPass is_token_byte bytes t.1)
+    and_from (ltb 0 (length bytes)) (list_all is_token_byte bytes) (lt-ltb 0 (length bytes) t.0) (list_all-from_AllPass is_token_byte bytes t.1)
 
 -- ---- field lines
 
@@ -52,7 +53,7 @@ field_of-Some l f e =
           let is : f ≡ record { name = name; raw = raw; end = l.ending } = cc in
           let tests = and_parts (is_token name) (list_all is_value_byte raw) h.0 in
           subst (ReadsField l) (sym is) (record {
-            valid = record { name = IsToken-is_token name tests.0; raw = AllPass-list_all is_value_byte raw tests.1 };
+            valid = record { name = IsToken-is_token name tests.0; raw = AllPass-from_list_all is_value_byte raw tests.1 };
             text = cut-Some 58 l.text name raw p.1;
             ending = refl;
           })
@@ -71,7 +72,7 @@ field_of-field_line f valid =
     cond (is_token parts.0 && list_all is_value_byte parts.1) (Some (record { name = parts.0; raw = parts.1; end = f.end })) None))
     (cut-append 58 f.name f.raw lacks)
     ∙ cond-true (is_token f.name && list_all is_value_byte f.raw) (Some f) None
-    (and_from (is_token f.name) (list_all is_value_byte f.raw) (is_token-IsToken f.name valid.name) (list_all-AllPass is_value_byte f.raw valid.raw))
+    (and_from (is_token f.name) (list_all is_value_byte f.raw) (is_token-IsToken f.name valid.name) (list_all-from_AllPass is_value_byte f.raw valid.raw))
 
 field_line-lacks : (stop : ℕ) → is_token_byte stop ≡ false → is_value_byte stop ≡ false → 58 ≢ stop → (f : Field) → IsField f
     → LacksByte stop (field_line f).text

@@ -56,9 +56,6 @@ step-heading held b = refl
 at_open : (s : HeadState) → s.place ≡ head.Open → s ≡ open_at s.held
 at_open s e = ap (λ (p : HeadPlace). record { place = p; held = s.held }) e
 
-heading_of_open : (s : HeadState) → s.place ≡ head.Open → heading_of s ≡ heading s.held
-heading_of_open s e = ap (λ (p : HeadPlace). heading_at p s.held) e
-
 -- bytes within the head
 abbrev GoesOn : List ℕ → List ℕ → Type 0
 GoesOn bytes held = (heads.after (open_at held) bytes).place ≡ head.Open

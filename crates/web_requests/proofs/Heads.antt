@@ -13,7 +13,7 @@ use Rattle.web_head_reader.specs.Standard as head_words
 use Rattle.web_head_reader.specs.Calls as head_calls
 use Rattle.web_head_reader.proofs.Comes.{open_at, Comes, goes_on, ends, is_long, comes}
 use Rattle.web_head_reader.proofs.Machine as head_machine
-use Rattle.web_bodies.proofs.TrailerRuns.{last_of}
+use Rattle.web_heads.proofs.LastLemmas.{last_of}
 use Rattle.web_contents.specs.declared.fault.WebFault.{WebFault}
 use Rattle.web_contents.specs.declared.fault.WebFault.TheVariants.{BadHead, HeadTooLong, TooManyHeaders, BadMethod, BadType, BadLength, BadChunk, FrameTooLong, Compressed, AfterMessage, AfterTrailers, BadTrailer, NoMessage, Truncated, OutOfMemory}
 use Rattle.web_contents.specs.Contents.{Content, place_of}

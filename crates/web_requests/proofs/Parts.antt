@@ -174,11 +174,6 @@ few_taken at h path message s c most piece x holds fits short =
 
 -- ---- refusals
 
-pub bounded_refused : (c : Content) (fault : WebFault) → place_of c ≡ content.Refused fault → IsBounded c
-bounded_refused c fault e = record {
-  while_open = λ is. absurd (let other : content.Refused fault ≡ content.Open = sym e ∙ is in cc);
-}
-
 within_open : (s : RequestState) → is_within s ≡ true → is_open s ≡ true
 within_open (heading held) e = refl
 within_open (within path message c) e = refl
@@ -223,23 +218,6 @@ refuses_part s path message old new piece most OutOfMemory e before x = record {
   refused_is = ap (λ (p : ContentPlace). state_at p path message new) x;
   was_open = inl (within_open s before);
 }
-
-pub refused_place : (old new : Content) (piece : List ℕ) (fault : WebFault) → content_calls.Refuses old piece fault new → place_of new ≡ content.Refused fault
-refused_place old new piece BadHead x = x.refused
-refused_place old new piece HeadTooLong x = x.refused
-refused_place old new piece TooManyHeaders x = x.refused
-refused_place old new piece BadMethod x = x.refused
-refused_place old new piece BadType x = x.refused
-refused_place old new piece BadLength x = x.refused
-refused_place old new piece (BadChunk at) x = x.refused
-refused_place old new piece (FrameTooLong count) x = x.refused
-refused_place old new piece Compressed x = x.refused
-refused_place old new piece AfterMessage x = x.refused
-refused_place old new piece AfterTrailers x = x.refused
-refused_place old new piece BadTrailer x = x.refused
-refused_place old new piece NoMessage x = x.refused
-refused_place old new piece Truncated x = x.refused
-refused_place old new piece OutOfMemory x = x
 
 -- ---- the body begins
 

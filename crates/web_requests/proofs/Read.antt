@@ -15,7 +15,7 @@ use Rattle.web_head_reader.specs.Standard.{IsHead, HasHead, IsTooLong, HasTooLon
 use Rattle.web_head_reader.specs.Standard as head_words
 use Rattle.web_head_reader.proofs.Comes.{whole_at}
 use Rattle.web_head_reader.proofs.Read.{heads_are_read, heads_are_one, ends_are_first}
-use Rattle.web_bodies.proofs.TrailerRuns.{last_of}
+use Rattle.web_heads.proofs.LastLemmas.{last_of}
 use Rattle.web_frames.specs.declared.limits.Side.TheVariants.{Request}
 use Rattle.web_frames.specs.declared.status.Trailers.{Trailers}
 use Rattle.web_frames.specs.declared.event.FrameEvent.{FrameEvent}

@@ -18,8 +18,6 @@ use Rattle.web_bodies.proofs.Framing.{count-after}
 use Rattle.web_frames.specs.declared.limits.Side.TheVariants.{Response}
 use Rattle.web_frames.specs.declared.status.Trailers.{Trailers}
 use Rattle.web_frames.specs.declared.event.FrameEvent.{FrameEvent}
-use Rattle.web_contents.specs.declared.event.ContentEvent.{ContentEvent}
-use Rattle.web_contents.specs.declared.event.ContentEvent.TheVariants as content
 use Rattle.web_contents.specs.declared.fault.WebFault.{WebFault}
 use Rattle.web_contents.specs.declared.fault.WebFault.TheVariants as web
 use Rattle.web_contents.specs.declared.place.ContentPlace.{ContentPlace}
@@ -507,25 +505,3 @@ to_head s h c n e going fits = let holds : Holds stage.Head h c n = (going, fits
 pub holds_body : (s : Stage) (h : HeadState) (c : Content) (n : ℕ) → s ≡ stage.Body → Holds s h c n
     → ((fault : WebFault) → place_of c ≢ Refused fault) × (c.body.count ≤ n)
 holds_body s h c n e holds = subst (λ (t : Stage). Holds t h c n) e holds
-
-pub to_body : (s : Stage) (h : HeadState) (c : Content) (n : ℕ) → s ≡ stage.Body → ((fault : WebFault) → place_of c ≢ Refused fault) → c.body.count ≤ n
-    → Holds s h c n
-to_body s h c n e fine fits = let holds : Holds stage.Body h c n = (fine, fits) in subst (λ (t : Stage). Holds t h c n) (sym e) holds
-
--- after bytes of a body
-pub gives_body : (s : Stage) (h : HeadState) (c : Content) (n : ℕ) (piece : List ℕ) (count : ℕ) (told : Option ContentEvent) (new : Content) → s ≡ stage.Body
-    → Holds s h c n → content_calls.Gives c piece count told new → Holds s h new (n + count)
-gives_body s h c n piece count told new e holds gives =
-    go told gives
-  where
-    not_refused : (place : ContentPlace) → place_of new ≡ place → ((fault : WebFault) → place ≢ Refused fault) → (fault : WebFault) → place_of new ≢ Refused fault
-    not_refused place stands fine fault f = fine fault (sym stands ∙ f)
-
-    taken : content_calls.Takes c piece count new → new.body.count ≤ n + count
-    taken x = let counted = x.counted in let fits = (holds_body s h c n e holds).1 in omega arith
-
-    go : (told : Option ContentEvent) → content_calls.Gives c piece count told new → Holds s h new (n + count)
-    go None (all, x) = to_body s h new (n + count) e (not_refused Open x.place_is (λ fault f. cc)) (taken x.takes)
-    go (Some (content.Message message)) x = to_body s h new (n + count) e x.goes_on (taken x.takes)
-    go (Some (content.Trailers trailers)) x = to_body s h new (n + count) e x.goes_on (taken x.takes)
-    go (Some content.End) x = to_body s h new (n + count) e (not_refused Over x.place_is (λ fault f. cc)) (taken x.takes)

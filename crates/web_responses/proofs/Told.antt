@@ -20,7 +20,7 @@ use Rattle.web_bodies.specs.Steps as bodies
 use Rattle.web_bodies.specs.Standard.{HasBody, HasFault}
 use Rattle.web_bodies.specs.Standard as body_words
 use Rattle.web_bodies.proofs.Read.{bodies_are_read}
-use Rattle.web_bodies.proofs.TrailerRuns.{last_of}
+use Rattle.web_heads.proofs.LastLemmas.{last_of}
 use Rattle.web_frames.specs.declared.limits.Side.TheVariants.{Response}
 use Rattle.web_frames.specs.declared.fault.FrameFault.TheVariants as frame_fault
 use Rattle.web_frames.specs.declared.event.FrameEvent.{FrameEvent}
@@ -242,9 +242,6 @@ bare_fault trailers kind at bytes fault (bad_framing found settled is) =
 -- what an answer says
 abbrev pub Says : List ℕ → ContentPlace → List WebEvent → Type 0
 Says bytes place told = (standing (after begin bytes) ≡ place) × (events_of begin bytes ≡ told)
-
-says_of : (bytes : List ℕ) (s : AnswerState) (place : ContentPlace) (told : List WebEvent) → Does begin bytes s told → standing s ≡ place → Says bytes place told
-says_of bytes s place told does stands = (ap standing does.0 ∙ stands, does.1)
 
 -- what a body of frames says, and one that may have none
 module _ (bytes head rest : List ℕ) (r : ResponseHead) (place : ContentPlace) (opens : Option Trailers) (opening : HasOpening bytes head rest r opens) where

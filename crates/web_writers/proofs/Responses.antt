@@ -93,10 +93,6 @@ chunk_of-bytes : (flag : ℕ) (payload : List ℕ) → chunk_bytes (chunk_of fla
 unfolding chunk_of frame_chunk chunk
 chunk_of-bytes flag payload = refl
 
-chunk_of-content : (flag : ℕ) (payload : List ℕ) → (chunk_of flag payload).content ≡ frame flag payload
-unfolding chunk_of
-chunk_of-content flag payload = refl
-
 -- the chunks of messages, and that of the trailers
 chunks_of : List (List ℕ) → List ℕ → List Chunk
 chunks_of [] text = chunk_of 128 text ∷ []
