@@ -1,8 +1,6 @@
 -- What requests are spelled as is read as the requests, whatever their method.
-use Rattle.std.proofs.Common.{ℕ, ◌≤◌, List, ap}
-use Rattle.proto_fields.specs.declared.kind.MessageKind.{MessageKind}
+use Rattle.std.proofs.Common.{ℕ, ◌≤◌}
 use Rattle.proto_fields.specs.declared.kind.MessageKind.TheVariants as kinds
-use Rattle.proto_fields.specs.Fields.{Field}
 use Rattle.expression_messages.specs.Laws.{IsShort, IsReadBack}
 use Rattle.request_messages.specs.Requests.{reattach_of, release_of, interrupt_of}
 use Rattle.request_messages.specs.Spelled.{reattach_fields, release_fields, interrupt_fields}
@@ -17,11 +15,7 @@ use Rattle.connect_messages.specs.Depths.{request_depth}
 use Rattle.connect_messages.specs.Known.{IsKnownRequest, HasRequestBits}
 use Rattle.connect_messages.proofs.ExecuteBack.{execute_back}
 use Rattle.connect_messages.proofs.AnalyzeBack.{analyze_back}
-
--- one more constructor around what is read
-around : {A B : Type 0} (make : A → B) (level : ℕ) (kind : MessageKind) (fields : List Field) (read : List Field → A) (value : A) → IsReadBack level kind fields read value →
-    IsReadBack level kind fields (λ found. make (read found)) (make value)
-around make level kind fields read value back = record { sound = back.sound; same = ap make back.same }
+use Rattle.response_messages.proofs.ResponseBack.{around}
 
 pub request_read_back : (level : ℕ) (request : Request) → IsKnownRequest request → HasRequestBits request → IsShort (request_fields request) → request_depth request ≤ level →
     IsReadBack level (request_kind (method_of request)) (request_fields request) (request_at level (method_of request)) request

@@ -64,7 +64,7 @@ condition_same level more number kind fields is upper sound = joined_same level 
 
 -- ---- the messages
 
-with_expressions : {R : Type 0} → R → List Expr → Project R
+unfoldable pub with_expressions : {R : Type 0} → R → List Expr → Project R
 with_expressions input expressions = record { input = input; expressions = expressions }
 
 pub project_agrees : {R : Type 0} (level more : ℕ) (input : R) (fields : List Field) → level ≤ more → AllByRecursion (IsSoundField (IsSound level) kinds.Project) fields →
@@ -72,7 +72,7 @@ pub project_agrees : {R : Type 0} (level more : ℕ) (input : R) (fields : List 
 unfolding payload_of with_expressions
 project_agrees level more input fields upper sound = ap (with_expressions input) (exprs_same level more 3 kinds.Project fields refl upper sound)
 
-with_condition : {R : Type 0} → R → Expr → Filter R
+unfoldable pub with_condition : {R : Type 0} → R → Expr → Filter R
 with_condition input condition = record { input = input; condition = condition }
 
 pub filter_agrees : {R : Type 0} (level more : ℕ) (input : R) (fields : List Field) → level ≤ more → AllByRecursion (IsSoundField (IsSound level) kinds.Filter) fields →
@@ -116,7 +116,7 @@ pub drop_columns_agrees : {R : Type 0} (level more : ℕ) (input : R) (fields : 
 unfolding payload_of with_columns_in
 drop_columns_agrees level more input fields upper sound = ap (with_columns_in input fields) (exprs_same level more 2 kinds.Drop fields refl upper sound)
 
-with_aliases : {R : Type 0} → R → List (Alias Expr) → WithColumns R
+unfoldable pub with_aliases : {R : Type 0} → R → List (Alias Expr) → WithColumns R
 with_aliases input aliases = record { input = input; aliases = aliases }
 
 pub with_columns_agrees : {R : Type 0} (level more : ℕ) (input : R) (fields : List Field) → level ≤ more → AllByRecursion (IsSoundField (IsSound level) kinds.WithColumns) fields →

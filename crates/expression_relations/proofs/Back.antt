@@ -1,5 +1,5 @@
 -- What relations that hold expressions are spelled as, besides their inputs, is read as the relations behind any inputs.
-use Rattle.std.proofs.Common.{◌≡◌, ℕ, ℤ, ◌≤◌, Bool, true, List, [], ◌++◌, map, Option, None, Some, refl, ap, ◌∙◌, arith}
+use Rattle.std.proofs.Common.{◌≡◌, ℕ, ℤ, ◌≤◌, Bool, true, List, ◌++◌, map, Option, None, Some, refl, ap, ◌∙◌, arith}
 use Rattle.std.specs.Prelude.{IsTrue, IfSome, option_map}
 use Rattle.std.specs.List.{list_all, AllByRecursion}
 use Rattle.std.proofs.lemmas.List.{append-nil}
@@ -8,7 +8,7 @@ use Rattle.proto_fields.specs.declared.kind.MessageKind.TheVariants as kinds
 use Rattle.proto_fields.specs.declared.kind.PayloadKind.TheVariants.{Message}
 use Rattle.proto_fields.specs.Fields.{Field, fields_of}
 use Rattle.proto_fields.specs.Kinds.{payload_of}
-use Rattle.proto_fields.specs.Readings.{payloads, joined, merged}
+use Rattle.proto_fields.specs.Readings.{joined, merged}
 use Rattle.proto_fields.specs.Spelling.{spell, payload_fields, int_fields, optional_bool_fields, optional_payload_fields}
 use Rattle.expression_messages.specs.declared.expression.Alias.{Alias}
 use Rattle.expression_messages.specs.declared.expression.SortOrder.{SortOrder}
@@ -34,8 +34,9 @@ use Rattle.expression_relations.specs.Spelled.{project_rest, filter_rest, join_r
 use Rattle.expression_relations.specs.Depths.{condition_depth, project_depth, filter_depth, join_depth, sort_depth, aggregate_depth, drop_columns_depth, with_columns_depth}
 use Rattle.expression_relations.specs.Known.{is_known_condition, is_known_project, is_known_filter, is_known_join, is_known_sort, is_known_aggregate, is_known_drop_columns, is_known_with_columns, HasProjectBits, HasFilterBits, HasJoinBits, HasSortBits, HasAggregateBits, HasDropColumnsBits, HasWithColumnsBits}
 use Rattle.field_groups.proofs.Rests.{RestBack, one_rest, two_rest, three_rest}
-use Rattle.field_groups.proofs.Scalars.{is_2, is_3, is_4, is_5}
+use Rattle.field_groups.proofs.Scalars.{is_2, is_3, is_4, is_5, no_payloads}
 use Rattle.expression_relations.proofs.Groups.{GroupBack, int_group, flag_group, texts_group, messages_group, items_back}
+use Rattle.expression_relations.proofs.Agree.{with_expressions, with_condition, with_aliases}
 
 -- ---- groups of expressions, aliases and sort orders
 
@@ -72,10 +73,6 @@ expr_group level kind number expr is_number is known bits short deep =
       same = λ whole reads. ap (expr_at level) (message_at-one number whole payload (reads.payloads_are ∙ payloads_one number payload)) ∙ back.same;
     }
 
-no_payloads : (number : ℕ) → payloads number [] ≡ []
-unfolding payloads
-no_payloads number = refl
-
 condition_group : (level : ℕ) (kind : MessageKind) (number : ℕ) (condition : Option Expr) → IsNumber number → payload_of kind number ≡ Message kinds.Expression → is_known_condition condition ≡ true → IfSome condition HasExprBits →
     IsShort (optional_payload_fields number (option_map (λ expr. spell (expr_fields expr)) condition)) → condition_depth condition ≤ level →
     GroupBack level kind number (optional_payload_fields number (option_map (λ expr. spell (expr_fields expr)) condition)) (λ fields. option_map (expr_at level) (merged number fields)) condition
@@ -97,9 +94,6 @@ condition_group level kind number (Some expr) is_number is known bits short deep
 
 -- ---- the messages
 
-with_expressions : {R : Type 0} → R → List Expr → Project R
-with_expressions input expressions = record { input = input; expressions = expressions }
-
 pub project_back : {R : Type 0} (level : ℕ) (it : Project R) → IsTrue (is_known_project it) → HasProjectBits it → IsShort (project_rest it) → project_depth it ≤ level →
     RestBack level 1 kinds.Project (project_rest it) (project_of level it.input) it
 unfolding payload_of with_expressions
@@ -107,9 +101,6 @@ project_back level it known bits short deep =
     let expressions = exprs_group level kinds.Project 3 it.expressions is_3 refl known bits short deep in
     one_rest level 1 3 kinds.Project (project_rest it) (project_of level it.input) it expressions.piece (omega arith)
     (λ whole reads. ap (with_expressions it.input) (expressions.same whole reads))
-
-with_condition : {R : Type 0} → R → Expr → Filter R
-with_condition input condition = record { input = input; condition = condition }
 
 pub filter_back : {R : Type 0} (level : ℕ) (it : Filter R) → IsTrue (is_known_filter it) → HasFilterBits it → IsShort (filter_rest it) → filter_depth it ≤ level →
     RestBack level 1 kinds.Filter (filter_rest it) (filter_of level it.input) it
@@ -192,9 +183,6 @@ drop_columns_back level it known bits short deep =
     let names = texts_group level kinds.Drop 3 it.column_names is_3 refl bits.column_names shorts.1 in
     two_rest level 1 2 3 kinds.Drop column_fields name_fields (drop_columns_of level it.input) it columns.piece names.piece (omega arith) (omega arith)
     (λ whole a b. same_drop it.input (columns.same whole a) (names.same whole b))
-
-with_aliases : {R : Type 0} → R → List (Alias Expr) → WithColumns R
-with_aliases input aliases = record { input = input; aliases = aliases }
 
 pub with_columns_back : {R : Type 0} (level : ℕ) (it : WithColumns R) → IsTrue (is_known_with_columns it) → HasWithColumnsBits it → IsShort (with_columns_rest it) → with_columns_depth it ≤ level →
     RestBack level 1 kinds.WithColumns (with_columns_rest it) (with_columns_of level it.input) it

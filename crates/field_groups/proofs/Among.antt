@@ -1,5 +1,5 @@
 -- What is read of one group of fields among groups of other numbers.
-use Rattle.std.proofs.Common.{◌≡◌, ◌≢◌, ℕ, ◌-◌, List, [], ◌∷◌, ◌++◌, refl, sym, ap, ◌∙◌, arith}
+use Rattle.std.proofs.Common.{◌≡◌, ◌≢◌, ℕ, List, [], ◌∷◌, ◌++◌, refl, sym, ap, ◌∙◌}
 use Rattle.std.proofs.lemmas.List.{append-nil}
 use Rattle.proto_fields.specs.Fields.{Field}
 use Rattle.proto_fields.specs.Readings.{number_in, payload_in, last_number, last_payload, payloads}

@@ -1,12 +1,12 @@
 -- What is read of a sound message is the same at every level that suffices.
-use Rattle.std.proofs.Common.{◌≡◌, ℕ, zero, suc, ◌-◌, ◌≤◌, ◌==◌, List, [], Option, None, Some, refl, sym, ap, ◌∙◌, subst, arith}
+use Rattle.std.proofs.Common.{◌≡◌, ℕ, ◌-◌, ◌≤◌, ◌==◌, List, Option, None, Some, refl, sym, ap, ◌∙◌, subst, arith}
 use Rattle.std.specs.Prelude.{if◌then◌else◌, option_map, unwrap_or}
 use Rattle.std.specs.List.{AllByRecursion}
 use Rattle.proto_fields.specs.declared.kind.MessageKind.TheVariants as kinds
 use Rattle.proto_fields.specs.Fields.{Field, fields_of}
 use Rattle.proto_fields.specs.Kinds.{payload_of}
 use Rattle.proto_fields.specs.Faults.{IsSound}
-use Rattle.proto_fields.specs.Readings.{last_some, payloads, Member, latest}
+use Rattle.proto_fields.specs.Readings.{payloads, Member, latest}
 use Rattle.expression_messages.specs.Messages.{message_at}
 use Rattle.expression_messages.proofs.Agreement.{AreSound, fields_sound, fields_in, message_at-joined, payloads_sound, message_sound, since_sound}
 use Rattle.command_messages.specs.declared.command.Command.{Command}
@@ -14,7 +14,7 @@ use Rattle.command_messages.specs.declared.command.Command.TheVariants as comman
 use Rattle.command_messages.specs.Commands.{write_operation_of, command_member, command_of}
 use Rattle.relation_messages.specs.declared.relation.Relation.{Relation}
 use Rattle.relation_messages.specs.Relations.{absent, relation_at}
-use Rattle.relation_messages.proofs.SameRelations.{relation_agrees}
+use Rattle.relation_messages.proofs.SameRelations.{relation_agrees, relation_at-nothing}
 use Rattle.plan_messages.specs.declared.plan.Plan.{Plan}
 use Rattle.plan_messages.specs.declared.plan.Plan.TheVariants.{Root, Command as IsCommand}
 use Rattle.plan_messages.specs.Plans.{plan_member, plan_at}
@@ -22,17 +22,10 @@ use Rattle.plan_messages.proofs.Joined.{joined_agree}
 
 -- ---- relations
 
--- no relation is the same at every level
-no_relation : (level : ℕ) → relation_at level [] ≡ absent
-unfolding relation_at latest last_some payloads
-no_relation zero = refl
-no_relation (suc zero) = refl
-no_relation (suc (suc level)) = refl
-
 relations_agree : (level more : ℕ) → level ≤ more → (messages : List (List ℕ)) → AllByRecursion (IsSound level kinds.Relation) messages →
     relation_at more (fields_in messages) ≡ relation_at level (fields_in messages)
 relations_agree level more upper =
-    joined_agree level kinds.Relation (relation_at level) (relation_at more) (no_relation more ∙ sym (no_relation level))
+    joined_agree level kinds.Relation (relation_at level) (relation_at more) (relation_at-nothing more ∙ sym (relation_at-nothing level))
     (λ bytes sound. relation_agrees level more bytes upper sound)
 
 -- the relation in a field

@@ -42,7 +42,7 @@ merged-nothing : None ≡ option_map common_of (merged 1 [])
 unfolding payloads
 merged-nothing = refl
 
-relation_at-nothing : (level : ℕ) → relation_at level [] ≡ absent
+pub relation_at-nothing : (level : ℕ) → relation_at level [] ≡ absent
 relation_at-nothing zero = relation_at_zero zero [] refl
 relation_at-nothing (suc level) = sym (relation_at_none (suc level) [] None (omega arith) merged-nothing latest-nothing)
 

@@ -18,7 +18,6 @@ use Rattle.expression_messages.specs.Laws.{IsShort, IsReadBack}
 use Rattle.expression_messages.proofs.Pieces.{Stands, nothing_stands, three_stand, stands_sound, read_back, short_payload, short_repeated, short_messages, IsNumber, is_numbered, Piece, payload_piece, text_piece, optional_text_piece, texts_piece, payloads_one, payloads_repeated, message_at-one, texts_back, ItemBack, messages_piece, messages_read}
 use Rattle.response_messages.specs.declared.key_value.KeyValue.{KeyValue}
 use Rattle.response_messages.specs.KeyValues.{key_value_of, key_value_fields, HasKeyValueBits}
-use Rattle.response_messages.proofs.PairBack.{key_value_read_back}
 use Rattle.request_messages.specs.declared.user_context.UserContext.{UserContext}
 use Rattle.request_messages.specs.declared.config.ConfigOperation.{ConfigOperation}
 use Rattle.request_messages.specs.declared.config.ConfigOperation.TheVariants as operation
@@ -31,21 +30,15 @@ use Rattle.field_groups.proofs.Members.{latest_none, latest_behind}
 use Rattle.field_groups.proofs.Groups.{ThreeRead, three_read, ThreeShort, three_short}
 use Rattle.field_groups.proofs.Scalars.{is_1, is_2, is_3, is_4, is_5, is_6, text_read, no_payloads}
 use Rattle.request_messages.proofs.FieldsBack.{context_piece, context_read}
+use Rattle.response_messages.proofs.AnswerBack.{key_values_back}
 
 -- ---- what a member holds
-
-items_back : (levels : ℕ) (pairs : List KeyValue) → AllByRecursion HasKeyValueBits pairs → AllByRecursion (λ pair. IsShort (key_value_fields pair)) pairs → 1 ≤ levels →
-    AllByRecursion (ItemBack levels kinds.KeyValue key_value_fields key_value_of) pairs
-items_back levels [] bits short some = tt
-items_back levels (pair ∷ pairs) bits short some =
-    let here : ItemBack levels kinds.KeyValue key_value_fields key_value_of pair = record { back = key_value_read_back levels pair bits.0 short.0 some; short = short.0 } in
-    (here, items_back levels pairs bits.1 short.1 some)
 
 -- pairs that are none need no level
 items_by_depth : (level : ℕ) (pairs : List KeyValue) → AllByRecursion HasKeyValueBits pairs → AllByRecursion (λ pair. IsShort (key_value_fields pair)) pairs → pairs_operation_depth pairs ≤ 1 + level →
     AllByRecursion (ItemBack (level - 1) kinds.KeyValue key_value_fields key_value_of) pairs
 items_by_depth level [] bits short deep = tt
-items_by_depth level (pair ∷ pairs) bits short deep = items_back (level - 1) (pair ∷ pairs) bits short (omega arith)
+items_by_depth level (pair ∷ pairs) bits short deep = key_values_back (level - 1) (pair ∷ pairs) bits short (omega arith)
 
 depth_some : (pairs : List KeyValue) → 2 ≤ pairs_operation_depth pairs
 depth_some [] = omega arith

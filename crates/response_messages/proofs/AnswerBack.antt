@@ -158,17 +158,17 @@ analyze_back level response known bits short deep = read_back level kinds.Analyz
 
 -- pairs
 
-pairs_back : (levels : ℕ) (pairs : List KeyValue) → AllByRecursion HasKeyValueBits pairs → AllByRecursion (λ pair. IsShort (key_value_fields pair)) pairs → 1 ≤ levels →
+pub key_values_back : (levels : ℕ) (pairs : List KeyValue) → AllByRecursion HasKeyValueBits pairs → AllByRecursion (λ pair. IsShort (key_value_fields pair)) pairs → 1 ≤ levels →
     AllByRecursion (ItemBack levels kinds.KeyValue key_value_fields key_value_of) pairs
-pairs_back levels [] bits short some = tt
-pairs_back levels (pair ∷ pairs) bits short some =
+key_values_back levels [] bits short some = tt
+key_values_back levels (pair ∷ pairs) bits short some =
     let here : ItemBack levels kinds.KeyValue key_value_fields key_value_of pair = record { back = key_value_read_back levels pair bits.0 short.0 some; short = short.0 } in
-    (here, pairs_back levels pairs bits.1 short.1 some)
+    (here, key_values_back levels pairs bits.1 short.1 some)
 
-pairs_back-deep : (levels : ℕ) (pairs : List KeyValue) → AllByRecursion HasKeyValueBits pairs → AllByRecursion (λ pair. IsShort (key_value_fields pair)) pairs → pairs_depth pairs ≤ levels →
+key_values_back-deep : (levels : ℕ) (pairs : List KeyValue) → AllByRecursion HasKeyValueBits pairs → AllByRecursion (λ pair. IsShort (key_value_fields pair)) pairs → pairs_depth pairs ≤ levels →
     AllByRecursion (ItemBack levels kinds.KeyValue key_value_fields key_value_of) pairs
-pairs_back-deep levels [] bits short deep = tt
-pairs_back-deep levels (pair ∷ pairs) bits short deep = pairs_back levels (pair ∷ pairs) bits short deep
+key_values_back-deep levels [] bits short deep = tt
+key_values_back-deep levels (pair ∷ pairs) bits short deep = key_values_back levels (pair ∷ pairs) bits short deep
 
 same_config : {session session2 : List ℕ} {pairs pairs2 : List KeyValue} → session ≡ session2 → pairs ≡ pairs2 →
     ◌≡◌ {A = ConfigResponse} (record { session_id = session; pairs = pairs }) (record { session_id = session2; pairs = pairs2 })
@@ -189,7 +189,7 @@ config_back level response bits short deep = read_back level kinds.ConfigRespons
     session_piece = text_piece (level - 1) kinds.ConfigResponse 1 response.session_id is_1 refl bits.session_id (short_two session rest short).0
 
     items : AllByRecursion (ItemBack (level - 1) kinds.KeyValue key_value_fields key_value_of) response.pairs
-    items = pairs_back-deep (level - 1) response.pairs bits.pairs (short_messages key_value_fields 2 response.pairs (short_two session rest short).1) (omega arith)
+    items = key_values_back-deep (level - 1) response.pairs bits.pairs (short_messages key_value_fields 2 response.pairs (short_two session rest short).1) (omega arith)
 
     piece : Piece (level - 1) kinds.ConfigResponse 2 rest
     piece = messages_piece (level - 1) kinds.ConfigResponse kinds.KeyValue 2 key_value_fields key_value_of response.pairs is_2 refl items

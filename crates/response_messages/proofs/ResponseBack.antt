@@ -14,7 +14,7 @@ use Rattle.response_messages.proofs.ExecuteBack.{execute_back}
 use Rattle.response_messages.proofs.AnswerBack.{analyze_back, config_back, interrupt_back, release_back}
 
 -- one more constructor around what is read
-around : {A B : Type 0} (make : A → B) (level : ℕ) (kind : MessageKind) (fields : List Field) (read : List Field → A) (value : A) → IsReadBack level kind fields read value →
+pub around : {A B : Type 0} (make : A → B) (level : ℕ) (kind : MessageKind) (fields : List Field) (read : List Field → A) (value : A) → IsReadBack level kind fields read value →
     IsReadBack level kind fields (λ found. make (read found)) (make value)
 around make level kind fields read value back = record { sound = back.sound; same = ap make back.same }
 
