@@ -23,7 +23,6 @@ use Rattle.web_contents.proofs.Parts.{after-parts}
 use Rattle.web_contents.proofs.Finish.{after_ends, first_to_end, first_else, finish_is, finish_true}
 use Rattle.web_contents.proofs.Finish as content_ends
 use Rattle.web_responses.specs.declared.event.WebEvent.{WebEvent}
-use Rattle.web_responses.specs.declared.event.WebEvent.TheVariants as event
 use Rattle.web_responses.specs.Answers.{AnswerState, in_head, in_body, bad_head, begin_body, begin, after, standing, finish, answer_in}
 use Rattle.web_responses.specs.Standard.{HasOpening, IsBegunBody, BeginsBody, BeginsAnswer, within_head, within_body, HasAnswerFault, IsWholePayload, EndsWithConnection, IsCutOff}
 use Rattle.web_responses.specs.Laws.{ConnectionsEnd}
@@ -156,30 +155,10 @@ body_finish bytes told x to_end e =
     (ends_at x.trailers x.r.body (length x.head) x.rest ∙ e)
 
 cut_off_at_end : (bytes : List ℕ) → IsCutOff bytes → finish (after begin bytes) ≡ Err Truncated
-cut_off_at_end bytes x =
-    let begun : BeginsBody bytes (event.Head x.r.status ∷ x.more) = record {
-      head = x.head;
-      rest = x.rest;
-      r = x.r;
-      trailers = x.trailers;
-      more = x.more;
-      opening = x.opening;
-      body = x.body;
-      told_is = refl;
-    } in
-    body_finish bytes (event.Head x.r.status ∷ x.more) begun false (first_else x.r.body (length x.head) x.framed)
+cut_off_at_end bytes x = body_finish bytes x.told x.body false (first_else x.body.r.body (length x.body.head) x.framed)
 
 cut_off_body : (bytes : List ℕ) (told : List WebEvent) (x : BeginsBody bytes told) → x.r.body ≢ ToEnd → IsCutOff bytes
-cut_off_body bytes told x framed = record {
-  head = x.head;
-  rest = x.rest;
-  r = x.r;
-  trailers = x.trailers;
-  more = x.more;
-  opening = x.opening;
-  framed = framed;
-  body = x.body;
-}
+cut_off_body bytes told x framed = record { told = told; body = x; framed = framed }
 
 -- a body that has begun is cut off, or ends with the connection, whole or not
 body_ends : (bytes : List ℕ) (told : List WebEvent) (x : BeginsBody bytes told) (kind : BodyKind) → x.r.body ≡ kind

@@ -154,11 +154,6 @@ pub record EndsWithConnection (bytes : List ℕ) : Type 0 where
 
 -- the connection ended within a body by length or in chunks: a right head, and a beginning of such a body
 pub record IsCutOff (bytes : List ℕ) : Type 0 where
-  pub head : List ℕ
-  pub rest : List ℕ
-  pub r : ResponseHead
-  pub trailers : Option Trailers
-  pub more : List WebEvent
-  pub opening : HasOpening bytes head rest r trailers
-  pub framed : r.body ≢ ToEnd
-  pub body : IsBegunBody trailers r.body rest more
+  pub told : List WebEvent
+  pub body : BeginsBody bytes told
+  pub framed : body.r.body ≢ ToEnd
