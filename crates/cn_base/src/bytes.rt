@@ -31,7 +31,7 @@ impl Bytes {
         }
     }
 
-    /// No bytes, with room for `room` bytes, which can then be appended without taking more memory.
+    /// No bytes, with room for `room` bytes. The room is a hint: appending within it takes no more memory, which no clause says.
     pub fn with_room(alloc: Global, room: usize) -> Result<Bytes, OutOfMemory>
         ensures { IfOk result (λ b. b ≡ []) }
     {

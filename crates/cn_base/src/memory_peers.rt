@@ -72,13 +72,14 @@ impl Acceptor for MemoryAcceptor {
         Ok(())
     }
 
-    /// Gives the next of the connections that are left, or fails where this call is to fail.
+    /// Gives the next of the connections that are left, and the end only where none is left, or fails where this call is to fail.
     fn accept(&mut self) -> Result<Option<(SteadySource, SteadySink)>, Failed>
         ensures cause { Counted self.old.faults self.new.faults result }
         ensures given { self.new.given ≡ given_after self.old.given result }
         ensures ended { IsTrue self.new.ended ↔ (result ≡ Ok None) }
         ensures fails { IsErr result ↔ Contains self.old.failing (counted self.old.calls) }
         ensures next { IfOk result (λ pair. self.old.left ≡ option_to_list pair ++ self.new.left) }
+        ensures end { result ≡ Ok None → self.old.left ≡ [] }
         ensures kept { IsErr result → self.new.left ≡ self.old.left }
         ensures calls { self.new.calls ≡ counted self.old.calls }
         ensures failing { self.new.failing ≡ self.old.failing }

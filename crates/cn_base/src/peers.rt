@@ -6,11 +6,11 @@ use crate::{Failed, Sink, Source, Text};
 
 /// Where connections come from.
 pub trait Acceptor {
-    /// What a connection sends.
-    type Input: Source + Send + 'static;
+    /// What a connection sends. It can be let go, which ends the connection's reading.
+    type Input: Source + Drop + Send + 'static;
 
-    /// Where a connection's answer goes.
-    type Output: Sink + Send + 'static;
+    /// Where a connection's answer goes. It can be let go, which ends the connection's writing.
+    type Output: Sink + Drop + Send + 'static;
 
     /// How many calls have failed. The count never falls, and stays at 2^64 - 1.
     ghost faults: { Self → ℕ };
@@ -36,7 +36,7 @@ pub trait Acceptor {
 
 /// What tells the time.
 pub trait Clock {
-    /// The last answer; 0 before the first.
+    /// The last answer. Before the first it is whatever the clock was made with, and nothing is said of it.
     ghost last: { Self → ℕ };
 
     /// The time in milliseconds. It can't fail, and nothing is said of one answer by another.
