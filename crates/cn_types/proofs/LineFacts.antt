@@ -11,11 +11,10 @@ use lib.Signed.{mag}
 use Rattle.cn_types.specs.declared.value.DataType.{DataType}
 use Rattle.cn_types.specs.declared.value.Value.{Value}
 use Rattle.cn_types.specs.declared.row.Row.{Row}
-use Rattle.cn_types.specs.Fit.{HaveTypes, FitsTypes}
+use Rattle.cn_types.specs.Fit.{HaveTypes, FitsTypes, HasBits}
 use Rattle.jiff_fmt.specs.Text.{pad2, pad4}
 use Rattle.cn_types.specs.Dates.{date_text, year_of, month_of, month_day_of}
 use Rattle.cn_types.specs.Printed.{printed, escaped, escaped_byte, boolean_text, line_of, row_line}
-use Rattle.cn_types.specs.Spelled.{HasBits}
 use Rattle.cn_types.specs.PrintedLaws.{LinesTellRowsApart}
 use Rattle.cn_types.proofs.PrintedFacts.{printed_injective, mag_small, wider}
 

@@ -7,7 +7,7 @@ use Rattle.std.proofs.lemmas.Fmt.{decimal_is_IsNumeral, signed_decimal_injective
 use Rattle.std.proofs.lemmas.Str.Parse.{digit_at}
 use lib.Signed.{mag, le_z}
 use Rattle.cn_types.specs.declared.fault.ValueFault.{ValueFault}
-use Rattle.std.proofs.Common.{FitsSigned, w32, w64}
+use Rattle.std.proofs.Common.{w32, w64}
 use Rattle.std.specs.Str.{bytes_eq}
 use Rattle.std.specs.Str.Parse.{ParsesSigned}
 use Rattle.std.proofs.lemmas.Fmt.{parse-signed_decimal}
@@ -21,10 +21,10 @@ use Rattle.jiff_fmt.specs.Temporal.{DateParts, date_parts, date_view, parse_date
 use Rattle.jiff_fmt.proofs.RoundTrip.{parse_date-date_text}
 use Rattle.cn_types.specs.declared.value.DataType.{DataType}
 use Rattle.cn_types.specs.declared.value.Value.{Value}
-use Rattle.cn_types.specs.Fit.{IsDay, HasType}
+use Rattle.cn_types.specs.Fit.{IsDay, HasType, IsInteger, IsLong, HasBits}
 use Rattle.cn_types.specs.Dates.{date_text}
 use Rattle.cn_types.specs.Printed.{printed, boolean_text}
-use Rattle.cn_types.specs.Spelled.{IsInteger, IsLong, HasBits, Spells, OneValueIsSpelled}
+use Rattle.cn_types.specs.Spelled.{Spells, OneValueIsSpelled}
 use Rattle.cn_types.proofs.DateFacts.{civil_date, date_text-date}
 use Rattle.cn_types.proofs.Unescapes.{escaped_injective, not_escaped}
 
@@ -93,11 +93,12 @@ signed_first (pos n) small e = decimal_first n (below_more n small) (first_byte_
 signed_first (negsuc n) small e = minus_first (decimal (suc n)) e
 
 pub mag_small : (n : ℤ) → IsLong n → mag n < 2 ^ 63
-mag_small (pos n) h = omega (arith, ints, h.0, h.1)
-mag_small (negsuc n) h = omega (arith, ints, h.0, h.1)
+mag_small (pos n) h = omega (arith, h)
+mag_small (negsuc n) h = omega (arith, h)
 
 pub wider : (n : ℤ) → IsInteger n → IsLong n
-wider n h = (omega (arith, ints, h.0), omega (arith, ints, h.1))
+wider (pos n) h = omega (arith, h)
+wider (negsuc n) h = omega (arith, h)
 
 -- ---- texts of dates
 
@@ -158,14 +159,6 @@ one_spelled kind text a b one two = printed_injective kind a b one.type two.type
 
 -- ---- what is parsed, and compared with what it is printed as
 
-pub fits_integer : (n : ℤ) → IsInteger n → FitsSigned w32 n
-fits_integer (pos n) h = omega (arith, ints, h.0, h.1)
-fits_integer (negsuc n) h = omega (arith, ints, h.0, h.1)
-
-pub fits_long : (n : ℤ) → IsLong n → FitsSigned w64 n
-fits_long (pos n) h = omega (arith, ints, h.0, h.1)
-fits_long (negsuc n) h = omega (arith, ints, h.0, h.1)
-
 pub differs : (xs ys : List ℕ) → false ≡ bytes_eq xs ys → xs ≢ ys
 differs xs ys unlike e = false_true (unlike ∙ (bytes_eq-Decides xs ys).1 e)
   where
@@ -173,10 +166,10 @@ differs xs ys unlike e = false_true (unlike ∙ (bytes_eq-Decides xs ys).1 e)
     false_true h = cc
 
 pub parsed_integer : {E : Type 0} (n : ℤ) (text : List ℕ) (r : Result ℤ E) → IsInteger n → signed_decimal n ≡ text → ParsesSigned w32 10 text r → r ≡ Ok n
-parsed_integer n text r h e parses = parse-signed_decimal w32 n text r (fits_integer n h) (mag_small n (wider n h)) (sym e) parses
+parsed_integer n text r h e parses = parse-signed_decimal w32 n text r h (mag_small n (wider n h)) (sym e) parses
 
 pub parsed_long : {E : Type 0} (n : ℤ) (text : List ℕ) (r : Result ℤ E) → IsLong n → signed_decimal n ≡ text → ParsesSigned w64 10 text r → r ≡ Ok n
-parsed_long n text r h e parses = parse-signed_decimal w64 n text r (fits_long n h) (mag_small n h) (sym e) parses
+parsed_long n text r h e parses = parse-signed_decimal w64 n text r h (mag_small n h) (sym e) parses
 
 ok_injective : {E : Type 0} (m n : ℤ) → ◌≡◌ {A = Result ℤ E} (Ok m) (Ok n) → m ≡ n
 ok_injective {E} m n e = cc

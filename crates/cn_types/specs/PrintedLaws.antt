@@ -2,9 +2,8 @@
 use Rattle.std.specs.Prelude.{◌≡◌, All}
 use Rattle.cn_types.specs.declared.row.Row.{Row}
 use Rattle.cn_types.specs.declared.schema.Schema.{Schema}
-use Rattle.cn_types.specs.Fit.{Fits}
+use Rattle.cn_types.specs.Fit.{Fits, HasBits}
 use Rattle.cn_types.specs.Printed.{row_line}
-use Rattle.cn_types.specs.Spelled.{HasBits}
 
 -- two rows of one schema that are printed alike are the same
 abbrev pub LinesTellRowsApart : Type 0

@@ -3,9 +3,9 @@ ghost use Rattle.std.specs.String.{string_bytes};
 ghost use Rattle.std.specs.Fmt.{signed_decimal};
 ghost use Rattle.cn_types.specs.declared.value.Value.{Value as AnyValue};
 ghost use Rattle.cn_types.specs.Dates.{date_text};
-ghost use Rattle.cn_types.specs.Fit.{IsDay};
+ghost use Rattle.cn_types.specs.Fit.{IsDay, IsInteger, IsLong};
 ghost use Rattle.cn_types.specs.Printed.{escaped, boolean_text, pending};
-ghost use Rattle.cn_types.specs.Spelled.{IsInteger, IsLong, Spells, OneValueIsSpelled};
+ghost use Rattle.cn_types.specs.Spelled.{Spells, OneValueIsSpelled};
 
 use crate::{DataType, Value, ValueFault};
 use cn_base::Text;
