@@ -52,7 +52,7 @@ Allows-Project input items = ap Allows (sym (V.rolls-Project input items)) ∙ A
 pub Allows-Filter : (input : Node) (condition : TypedExpr) → Allows (V.Filter input condition) ≡ After (Allows input) (λ a. Bounded (λ list. list ≡ selected condition a))
 Allows-Filter input condition = ap Allows (sym (V.rolls-Filter input condition)) ∙ Allows_roll (O.Filter input condition)
 
-pub Allows-Join : (left right : Node) (kind : JoinKind) (condition : Option TypedExpr) → Allows (V.Join left right kind condition) ≡ After (Allows left) (λ a. After (Allows right) (λ b. Bounded (IsJoin kind (joining_of kind condition left right) a b)))
+pub Allows-Join : (left right : Node) (kind : JoinKind) (condition : Option TypedExpr) → Allows (V.Join left right kind condition) ≡ After (Allows left) (λ a. After (Allows right) (λ b. Bounded (IsJoin kind (joining_of condition left right) a b)))
 Allows-Join left right kind condition = ap Allows (sym (V.rolls-Join left right kind condition)) ∙ Allows_roll (O.Join left right kind condition)
 
 pub Allows-SetOp : (left right : Node) (kind : SetKind) (all : Bool) → Allows (V.SetOp left right kind all) ≡ After (Allows left) (λ a. After (Allows right) (λ b. Bounded (IsSetOperation kind all a b)))

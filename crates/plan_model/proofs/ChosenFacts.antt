@@ -64,7 +64,7 @@ chosen-Project input items = ap chosen (sym (V.rolls-Project input items)) ∙ c
 pub chosen-Filter : (input : Node) (condition : TypedExpr) → chosen (V.Filter input condition) ≡ after (chosen input) (λ a. limited (selected condition a))
 chosen-Filter input condition = ap chosen (sym (V.rolls-Filter input condition)) ∙ chosen_roll (O.Filter input condition)
 
-pub chosen-Join : (left right : Node) (kind : JoinKind) (condition : Option TypedExpr) → chosen (V.Join left right kind condition) ≡ after (chosen left) (λ a. after (chosen right) (λ b. limited (joined kind (joining_of kind condition left right) a b)))
+pub chosen-Join : (left right : Node) (kind : JoinKind) (condition : Option TypedExpr) → chosen (V.Join left right kind condition) ≡ after (chosen left) (λ a. after (chosen right) (λ b. limited (joined kind (joining_of condition left right) a b)))
 chosen-Join left right kind condition = ap chosen (sym (V.rolls-Join left right kind condition)) ∙ chosen_roll (O.Join left right kind condition)
 
 pub chosen-SetOp : (left right : Node) (kind : SetKind) (all : Bool) → chosen (V.SetOp left right kind all) ≡ after (chosen left) (λ a. after (chosen right) (λ b. limited (combined_rows kind all a b)))
@@ -170,7 +170,7 @@ cases = record {
       (allowed_after input (λ a list. list ≡ selected condition a) (selected condition) (allowed (every_input IsSound (V.Filter input condition) (O.Filter input condition) (V.outs-Filter input condition) formed).0) (λ a. refl));
   join = λ left right kind condition allowed_left allowed_right formed.
       let below = every_input IsSound (V.Join left right kind condition) (O.Join left right kind condition) (V.outs-Join left right kind condition) formed in
-      let joining = joining_of kind condition left right in
+      let joining = joining_of condition left right in
       allowed_at (V.Join left right kind condition) (After (Allows left) (λ a. After (Allows right) (λ b. Bounded (IsJoin kind joining a b))))
       (after (chosen left) (λ a. after (chosen right) (λ b. limited (joined kind joining a b)))) (Allows-Join left right kind condition) (chosen-Join left right kind condition)
       (allowed_after_two left right (IsJoin kind joining) (joined kind joining) (allowed_left below.0) (allowed_right below.1.0) (λ a b row. refl));

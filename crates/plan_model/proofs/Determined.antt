@@ -196,7 +196,7 @@ cases = record {
       (λ a b e xs ys f g. along xs ys (selected condition a) (selected condition b) f (SameCounts-filter (λ row. is_true (val condition row)) a b e) g));
   join = λ left right kind condition fixed_left fixed_right h.
       let inputs = every_input IsNoChoice (V.Join left right kind condition) (O.Join left right kind condition) (V.outs-Join left right kind condition) h in
-      let joining = joining_of kind condition left right in
+      let joining = joining_of condition left right in
       alike_at (V.Join left right kind condition) (After (Allows left) (λ a. After (Allows right) (λ b. Bounded (IsJoin kind joining a b)))) (Allows-Join left right kind condition)
       (alike_after_two left right (IsJoin kind joining) fixed_left fixed_right inputs.0 inputs.1.0
       (λ a b c d e f xs ys g k. through xs ys (joined kind joining a b) (joined kind joining c d) g (same_joined joining a c b d e f kind) k));

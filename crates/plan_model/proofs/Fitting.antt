@@ -214,7 +214,7 @@ cases = record {
       (λ a rows f is. subst (Fit (types input)) (sym is) (AllByRecursion-filter (FitsTypes (types input)) (λ row. is_true (val condition row)) a f)));
   join = λ left right kind condition fit_left fit_right formed.
       let below = every_input IsSound (V.Join left right kind condition) (O.Join left right kind condition) (V.outs-Join left right kind condition) formed in
-      let joining = joining_of kind condition left right in
+      let joining = joining_of condition left right in
       fit_at (V.Join left right kind condition) (join_types kind (types left) (types right)) (After (Allows left) (λ a. After (Allows right) (λ b. Bounded (IsJoin kind joining a b))))
       (types-Join left right kind condition) (Allows-Join left right kind condition)
       (fit_after_two left right (join_types kind (types left) (types right)) (IsJoin kind joining) fit_left fit_right below.0 below.1.0

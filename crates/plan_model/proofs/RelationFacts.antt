@@ -59,8 +59,8 @@ cases = record {
   filter = λ input condition within rows h.
       within_after input (λ a list. list ≡ selected condition a) rows (allowed_as (V.Filter input condition) (After (Allows input) (λ a. Bounded (λ list. list ≡ selected condition a))) (Ok rows) (Allows-Filter input condition) h);
   join = λ left right kind condition in_left in_right rows h.
-      within_after_two left right (IsJoin kind (joining_of kind condition left right)) rows
-      (allowed_as (V.Join left right kind condition) (After (Allows left) (λ a. After (Allows right) (λ b. Bounded (IsJoin kind (joining_of kind condition left right) a b)))) (Ok rows) (Allows-Join left right kind condition) h);
+      within_after_two left right (IsJoin kind (joining_of condition left right)) rows
+      (allowed_as (V.Join left right kind condition) (After (Allows left) (λ a. After (Allows right) (λ b. Bounded (IsJoin kind (joining_of condition left right) a b)))) (Ok rows) (Allows-Join left right kind condition) h);
   set_op = λ left right kind all in_left in_right rows h.
       within_after_two left right (IsSetOperation kind all) rows
       (allowed_as (V.SetOp left right kind all) (After (Allows left) (λ a. After (Allows right) (λ b. Bounded (IsSetOperation kind all a b)))) (Ok rows) (Allows-SetOp left right kind all) h);
@@ -191,9 +191,9 @@ split true n = omega arith
 split false n = omega arith
 
 inner_rows : (left right : Node) (condition : TypedExpr) (rows : List Row) → Allows (V.Join left right JoinKind.Inner (Some condition)) (Ok rows)
-    → (a : List Row) × (b : List Row) × IsJoin JoinKind.Inner (joining_of JoinKind.Inner (Some condition) left right) a b rows
+    → (a : List Row) × (b : List Row) × IsJoin JoinKind.Inner (joining_of (Some condition) left right) a b rows
 inner_rows left right condition rows h =
-    let joining = joining_of JoinKind.Inner (Some condition) left right in
+    let joining = joining_of (Some condition) left right in
     let s = after_rows (Allows left) (λ a. After (Allows right) (λ b. Bounded (IsJoin JoinKind.Inner joining a b))) rows
     (allowed_as (V.Join left right JoinKind.Inner (Some condition)) (After (Allows left) (λ a. After (Allows right) (λ b. Bounded (IsJoin JoinKind.Inner joining a b)))) (Ok rows)
     (Allows-Join left right JoinKind.Inner (Some condition)) h) in
@@ -204,7 +204,7 @@ pub joins_match : JoinsMatch
 joins_match = record {
   never_true = λ left right condition never rows h.
       let t = inner_rows left right condition rows h in
-      let joining = joining_of JoinKind.Inner (Some condition) left right in
+      let joining = joining_of (Some condition) left right in
       nothing_counted rows (λ row. t.2 row ∙ ap (λ (rs : List Row). count rs row) (no_pairs joining t.0 t.1 (λ l r. never (beside l r))));
   semi_and_anti = λ joining a b semi anti f g row.
       omega (arith, f row, g row, count-filter (has_right joining b) a row, count-filter (λ left. not (has_right joining b left)) a row, split (has_right joining b row) (count a row));

@@ -179,7 +179,7 @@ abbrev key_rows : List Row
 key_rows = one ∷ null ∷ null ∷ two ∷ []
 
 abbrev by_key : Joining
-by_key = joining_of JoinKind.Full (Some same_keys) (given left_rows) (given right_rows)
+by_key = joining_of (Some same_keys) (given left_rows) (given right_rows)
 
 abbrev join_node : Node
 join_node = V.Join (given left_rows) (given right_rows) JoinKind.Full (Some same_keys)
@@ -187,13 +187,13 @@ join_node = V.Join (given left_rows) (given right_rows) JoinKind.Full (Some same
 nulls_of : (rows : List Row) → nulls (types (given rows)) ≡ null
 nulls_of rows = ap nulls (types-Rows key_schema rows)
 
-matched : (left right : Row) → matches JoinKind.Full (Some same_keys) left right ≡ is_true (call Function.EqualTo DataType.Boolean (value_at (beside left right) 0 ∷ value_at (beside left right) 1 ∷ []))
+matched : (left right : Row) → matches (Some same_keys) left right ≡ is_true (call Function.EqualTo DataType.Boolean (value_at (beside left right) 0 ∷ value_at (beside left right) 1 ∷ []))
 matched left right = ap is_true (val_pair Function.EqualTo DataType.Boolean (beside left right))
 
 joined_is : joined JoinKind.Full by_key left_rows right_rows ≡ joined_rows
 unfolding call
 joined_is =
-    full_of_none (matches JoinKind.Full (Some same_keys)) (nulls (types (given left_rows))) (nulls (types (given right_rows))) one null null two
+    full_of_none (matches (Some same_keys)) (nulls (types (given left_rows))) (nulls (types (given right_rows))) one null null two
     (matched one null) (matched one two) (matched null null) (matched null two)
     ∙ ap (λ (nothing : Row). beside one nothing ∷ beside null nothing ∷ beside (nulls (types (given left_rows))) null ∷ beside (nulls (types (given left_rows))) two ∷ []) (nulls_of right_rows)
     ∙ ap (λ (nothing : Row). beside one null ∷ beside null null ∷ beside nothing null ∷ beside nothing two ∷ []) (nulls_of left_rows)

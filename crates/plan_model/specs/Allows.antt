@@ -18,8 +18,8 @@ use Rattle.plan_model.specs.SetOperations.{IsSetOperation}
 use Rattle.plan_model.specs.Sorting.{IsSort}
 
 -- how two relations are joined
-abbrev pub joining_of : JoinKind → Option TypedExpr → Node → Node → Joining
-joining_of kind condition left right = record { matching = matches kind condition; left_nulls = nulls (types left); right_nulls = nulls (types right) }
+abbrev pub joining_of : Option TypedExpr → Node → Node → Joining
+joining_of condition left right = record { matching = matches condition; left_nulls = nulls (types left); right_nulls = nulls (types right) }
 
 -- one relation, where `node` tells each input and `allowed` which outcomes it allows: an error of the inputs from left to right; else,
 -- with a list of each input, a list of the relation within the limits
@@ -29,7 +29,7 @@ Allows_step X node allowed (Node-F.Range start end step) = Bounded (IsRange star
 Allows_step X node allowed (Node-F.Project input items) = After (allowed input) (λ a. Bounded (λ list. list ≡ projected items a))
 Allows_step X node allowed (Node-F.Filter input condition) = After (allowed input) (λ a. Bounded (λ list. list ≡ selected condition a))
 Allows_step X node allowed (Node-F.Join left right kind condition) =
-    After (allowed left) (λ a. After (allowed right) (λ b. Bounded (IsJoin kind (joining_of kind condition (node left) (node right)) a b)))
+    After (allowed left) (λ a. After (allowed right) (λ b. Bounded (IsJoin kind (joining_of condition (node left) (node right)) a b)))
 Allows_step X node allowed (Node-F.SetOp left right kind all) = After (allowed left) (λ a. After (allowed right) (λ b. Bounded (IsSetOperation kind all a b)))
 Allows_step X node allowed (Node-F.Aggregate input keys calls items) = After (allowed input) (λ a. Bounded (IsAggregate keys calls items a))
 Allows_step X node allowed (Node-F.DistinctOn input columns) = After (allowed input) (λ a. Bounded (IsDistinctOn columns a))

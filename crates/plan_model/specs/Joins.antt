@@ -18,11 +18,10 @@ beside left right = record { 0 = left.0 ++ right.0 }
 abbrev pub nulls : List DataType → Row
 nulls kinds = record { 0 = replicate (length kinds) Null }
 
--- the condition is true of two rows side by side; each pair matches where there is none, and in a cross join
-abbrev pub matches : JoinKind → Option TypedExpr → Row → Row → Bool
-matches JoinKind.Cross condition left right = true
-matches kind None left right = true
-matches kind (Some condition) left right = is_true (val condition (beside left right))
+-- two rows match where the condition is true of them side by side; without a condition each pair matches
+abbrev pub matches : Option TypedExpr → Row → Row → Bool
+matches None left right = true
+matches (Some condition) left right = is_true (val condition (beside left right))
 
 -- what a join goes by: which rows match, and the rows of nulls that stand in place of a left and of a right row
 pub record Joining : Type 0 where

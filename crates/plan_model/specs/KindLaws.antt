@@ -38,7 +38,7 @@ pub record OutcomesOfKinds : Type 0 where
   pub project : (input : Node) (items : List TypedExpr) → AllowsAs (Allows (Project input items)) (After (Allows input) (λ a. Bounded (λ list. list ≡ projected items a)))
   pub filter : (input : Node) (condition : TypedExpr) → AllowsAs (Allows (Filter input condition)) (After (Allows input) (λ a. Bounded (λ list. list ≡ selected condition a)))
   pub join : (left right : Node) (kind : JoinKind) (condition : Option TypedExpr)
-      → AllowsAs (Allows (Join left right kind condition)) (After (Allows left) (λ a. After (Allows right) (λ b. Bounded (IsJoin kind (joining_of kind condition left right) a b))))
+      → AllowsAs (Allows (Join left right kind condition)) (After (Allows left) (λ a. After (Allows right) (λ b. Bounded (IsJoin kind (joining_of condition left right) a b))))
   pub set_op : (left right : Node) (kind : SetKind) (all : Bool)
       → AllowsAs (Allows (SetOp left right kind all)) (After (Allows left) (λ a. After (Allows right) (λ b. Bounded (IsSetOperation kind all a b))))
   pub aggregate : (input : Node) (keys : List TypedExpr) (calls : List AggregateCall) (items : List TypedExpr)
