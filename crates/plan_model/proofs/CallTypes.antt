@@ -29,7 +29,7 @@ HasType-Null K.Long = tt
 HasType-Null K.Text = tt
 HasType-Null K.Date = tt
 
-Some-is : (a b : DataType) → Some a ≡ Some b → a ≡ b
+pub Some-is : (a b : DataType) → Some a ≡ Some b → a ≡ b
 Some-is a b e = cc
 
 -- ---- results of one type, whatever the arguments are
@@ -88,7 +88,7 @@ not_typed : (a : Value) → HasType K.Boolean (not_value a)
 not_typed (Boolean b) = tt
 not_typed a = tt
 
-or_all_typed : (values : List Value) → HasType K.Boolean (or_all values)
+pub or_all_typed : (values : List Value) → HasType K.Boolean (or_all values)
 or_all_typed [] = tt
 or_all_typed (value ∷ values) = or_typed value (or_all values)
 
@@ -198,10 +198,10 @@ absolute_typed kind a x e p = cc
 -- ---- values that take the type that they have together
 
 -- a value that has the type once it is widened to it
-abbrev Widens : DataType → Value → Type 0
+abbrev pub Widens : DataType → Value → Type 0
 Widens kind value = HasType kind (widened kind value)
 
-widens_own : (kind : DataType) (value : Value) → HasType kind value → Widens kind value
+pub widens_own : (kind : DataType) (value : Value) → HasType kind value → Widens kind value
 widens_own K.Boolean value h = h
 widens_own K.Integer value h = h
 widens_own K.Long Null h = h
@@ -220,7 +220,7 @@ widens_to_long value h = absurd h
 widens_kind : (a b : DataType) (value : Value) → Some a ≡ Some b → Widens a value → Widens b value
 widens_kind a b value e h = subst (λ k. Widens k value) (Some-is a b e) h
 
-common_left : (kind a b : DataType) (value : Value) → common a b ≡ Some kind → HasType a value → Widens kind value
+pub common_left : (kind a b : DataType) (value : Value) → common a b ≡ Some kind → HasType a value → Widens kind value
 common_left kind K.Boolean K.Boolean value e h = widens_kind K.Boolean kind value e h
 common_left kind K.Text K.Text value e h = widens_kind K.Text kind value e h
 common_left kind K.Date K.Date value e h = widens_kind K.Date kind value e h
@@ -230,7 +230,7 @@ common_left kind K.Long K.Integer value e h = widens_kind K.Long kind value e (w
 common_left kind K.Long K.Long value e h = widens_kind K.Long kind value e (widens_own K.Long value h)
 common_left kind a b value e h = cc
 
-common_right : (kind a b : DataType) (value : Value) → common a b ≡ Some kind → Widens b value → Widens kind value
+pub common_right : (kind a b : DataType) (value : Value) → common a b ≡ Some kind → Widens b value → Widens kind value
 common_right kind K.Boolean K.Boolean value e h = widens_kind K.Boolean kind value e h
 common_right kind K.Text K.Text value e h = widens_kind K.Text kind value e h
 common_right kind K.Date K.Date value e h = widens_kind K.Date kind value e h
@@ -250,7 +250,7 @@ common_then kind a None value values e h all = cc
 common_then kind a (Some b) value values e h all = (common_left kind a b value e h, all_wider kind a b values e (all b refl))
 
 -- values of types that have one together
-common_widens : (kind : DataType) (kinds : List DataType) (values : List Value) → common_of kinds ≡ Some kind → HaveTypes kinds values → AllByRecursion (Widens kind) values
+pub common_widens : (kind : DataType) (kinds : List DataType) (values : List Value) → common_of kinds ≡ Some kind → HaveTypes kinds values → AllByRecursion (Widens kind) values
 common_widens kind [] values e h = cc
 common_widens kind (a ∷ kinds) [] e h = absurd h
 common_widens kind (a ∷ []) (value ∷ []) e h = (widens_kind a kind value e (widens_own a value h.0), tt)
@@ -291,15 +291,15 @@ of_first_typed f kind typed (a ∷ others) = typed a others
 of_first_typed f kind typed [] = HasType-Null kind
 
 -- the one type of a result
-chosen_kind : (b : Bool) (result kind : DataType) → (if b then Some result else None) ≡ Some kind → result ≡ kind
+pub chosen_kind : (b : Bool) (result kind : DataType) → (if b then Some result else None) ≡ Some kind → result ≡ kind
 chosen_kind true result kind e = Some-is result kind e
 chosen_kind false result kind e = cc
 
-always_kind : (result kind : DataType) (other : Option DataType) → always result other ≡ Some kind → result ≡ kind
+pub always_kind : (result kind : DataType) (other : Option DataType) → always result other ≡ Some kind → result ≡ kind
 always_kind result kind None e = cc
 always_kind result kind (Some found) e = Some-is result kind e
 
-by_two_kind : (result kind : DataType) (other : DataType → DataType → Option DataType) (kinds : List DataType) → by_two (λ a b. always result (other a b)) kinds ≡ Some kind → result ≡ kind
+pub by_two_kind : (result kind : DataType) (other : DataType → DataType → Option DataType) (kinds : List DataType) → by_two (λ a b. always result (other a b)) kinds ≡ Some kind → result ≡ kind
 by_two_kind result kind other (a ∷ b ∷ []) e = always_kind result kind (other a b) e
 by_two_kind result kind other kinds e = cc
 
@@ -307,11 +307,11 @@ by_one_kind : (result kind : DataType) (kinds : List DataType) → by_one (λ a.
 by_one_kind result kind (a ∷ []) e = Some-is result kind e
 by_one_kind result kind kinds e = cc
 
-in_kind : (kind : DataType) (kinds : List DataType) → in_type kinds ≡ Some kind → K.Boolean ≡ kind
+pub in_kind : (kind : DataType) (kinds : List DataType) → in_type kinds ≡ Some kind → K.Boolean ≡ kind
 in_kind kind (a ∷ b ∷ kinds) e = always_kind K.Boolean kind (common_of (a ∷ b ∷ kinds)) e
 in_kind kind kinds e = cc
 
-concat_kind : (kind : DataType) (kinds : List DataType) → concat_type kinds ≡ Some kind → K.Text ≡ kind
+pub concat_kind : (kind : DataType) (kinds : List DataType) → concat_type kinds ≡ Some kind → K.Text ≡ kind
 concat_kind kind [] e = cc
 concat_kind kind (a ∷ kinds) e = chosen_kind (list_all (same_kind K.Text) (a ∷ kinds)) K.Text kind e
 

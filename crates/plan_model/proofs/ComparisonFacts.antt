@@ -38,7 +38,7 @@ by_class (Text a) (Text b) e present = refl
 by_class (Date a) (Date b) e present = refl
 by_class a b e present = absurd (omega (arith, e))
 
-comparison_in_type : (kind : DataType) (a b : Value) → HasType kind a → HasType kind b → a ≢ Null → b ≢ Null → comparison a b ≡ Some (value_cmp a b)
+pub comparison_in_type : (kind : DataType) (a b : Value) → HasType kind a → HasType kind b → a ≢ Null → b ≢ Null → comparison a b ≡ Some (value_cmp a b)
 comparison_in_type kind a b p q m n = by_class a b (class_of-kind kind a p m ∙ sym (class_of-kind kind b q n)) m
 
 pub is_eq-Equal : (o : Ordering) → is_eq o ≡ true → o ≡ Equal
@@ -46,7 +46,7 @@ is_eq-Equal Less e = cc
 is_eq-Equal Equal e = refl
 is_eq-Equal Greater e = cc
 
-Boolean-true : (b : Bool) → Boolean b ≡ Boolean true → b ≡ true
+pub Boolean-true : (b : Bool) → Boolean b ≡ Boolean true → b ≡ true
 Boolean-true true e = refl
 Boolean-true false e = cc
 
@@ -76,7 +76,7 @@ equality same = record {
   same = λ kind a b p q m n. tells same a b (equal_to a b) (equal_in_type kind a b p q m n);
 }
 
-not_distinct_in_type : (kind : DataType) (a b : Value) → HasType kind a → HasType kind b → is_not_distinct a b ≡ value_eq a b
+pub not_distinct_in_type : (kind : DataType) (a b : Value) → HasType kind a → HasType kind b → is_not_distinct a b ≡ value_eq a b
 not_distinct_in_type kind Null Null p q = refl
 not_distinct_in_type kind Null (Boolean b) p q = refl
 not_distinct_in_type kind Null (Integer b) p q = refl

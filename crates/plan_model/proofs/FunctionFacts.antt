@@ -1,5 +1,5 @@
 -- What single functions hold.
-use Rattle.std.proofs.Common.{◌≡◌, ◌<◌, ◌-◌, ◌%◌, ◌^◌, ℕ, suc, ℤ, pos, negsuc, Bool, true, false, length, take, drop, FitsSigned, refl, sym, ap, ◌∙◌, subst, arith}
+use Rattle.std.proofs.Common.{◌≡◌, ◌<◌, ◌+◌, ◌-◌, ◌%◌, ◌^◌, ℕ, suc, ℤ, pos, negsuc, ◌-ℤ◌, Bool, true, false, [], ◌∷◌, ◌++◌, length, take, drop, FitsSigned, refl, sym, ap, ◌∙◌, subst, lit≤, arith}
 use Rattle.std.specs.Prelude.{unsigned_abs, nat_lt, unwrap_or}
 use lib.Pow.{pow_pos}
 use mir.Syntax.{Width}
@@ -10,10 +10,13 @@ use Rattle.std.proofs.lemmas.Bool.Decides.{Decides-eqb}
 use Rattle.std.proofs.lemmas.Int.{int_wrap_fits, SFits-int_wrap}
 use Rattle.std.proofs.lemmas.Slice.Eq.{starts_is, ends_is}
 use Rattle.jiff_core.specs.declared.civil.date.Date.{Date}
+use Rattle.jiff_core.specs.Calendar.{days_from_civil, day_count, days_of_months, days_of_years, IsCivilDate}
 use Rattle.jiff_core.proofs.DateLemmas.{epoch_day_injective}
+use Rattle.jiff_core.proofs.MarchLemmas.{days_of_years-march_days}
 use Rattle.cn_types.specs.declared.value.Value.{Value}
 use Rattle.cn_types.specs.declared.value.Value.TheVariants as V
-use Rattle.cn_types.specs.Dates.{year_of, month_of, month_day_of}
+use Rattle.cn_types.specs.Dates.{year_of, month_of, month_day_of, date_text}
+use Rattle.cn_types.specs.Fit.{IsDay}
 use Rattle.cn_types.proofs.DateFacts.{dates_of_the_calendar}
 use Rattle.plan_model.specs.Arithmetic.{number}
 use Rattle.plan_model.specs.FunctionLaws.{NumbersWrap, TextsStartAndEnd, DatePartsAreOfTheCalendar}
@@ -36,14 +39,37 @@ texts_start_and_end = record {
 
 -- ---- dates
 
-pub date_parts : DatePartsAreOfTheCalendar
-unfolding call
-date_parts number year month day h civil e =
+-- a day in range is of the one date that has its number
+same_date : (number : ℤ) (year month day : ℕ) → IsDay number → IsCivilDate (pos year) month day → days_from_civil (pos year) month day ≡ number
+    → (pos (year_of number) ≡ pos year) × (month_of number ≡ month) × (month_day_of number ≡ day)
+same_date number year month day h civil e =
     let is = dates_of_the_calendar number h in
     let given : Date = record { year = pos year; month = month; day = day; year_in = civil.0; month_in = civil.1; day_in = civil.2 } in
     let found : Date = record { year = pos (year_of number); month = month_of number; day = month_day_of number; year_in = is.civil.0; month_in = is.civil.1; day_in = is.civil.2 } in
-    let same = epoch_day_injective found given (is.same ∙ sym e) in
+    epoch_day_injective found given (is.same ∙ sym e)
+
+pub date_parts : DatePartsAreOfTheCalendar
+unfolding call
+date_parts number year month day h civil e =
+    let same = same_date number year month day h civil e in
     record { year_part = ap V.Integer same.0; month_part = ap (λ n. V.Integer (pos n)) same.1; day_part = ap (λ n. V.Integer (pos n)) same.2 }
+
+-- 29 February 2024
+leap_day_number : days_from_civil (pos 2024) 2 29 ≡ pos 19782
+unfolding days_from_civil day_count days_of_months
+leap_day_number =
+    let later : days_of_years 12024 ≡ 4391676 = omega (arith, days_of_years-march_days 12024) in
+    let earlier : days_of_years 11970 ≡ 4371953 = omega (arith, days_of_years-march_days 11970) in
+    ap (λ n. pos (n + 59) -ℤ pos (days_of_years 11970 + 0)) later ∙ ap (λ n. pos 4391735 -ℤ pos (n + 0)) earlier
+
+pub leap_day_text : date_text (pos 19782) ≡ 50 ∷ 48 ∷ 50 ∷ 52 ∷ 45 ∷ 48 ∷ 50 ∷ 45 ∷ 50 ∷ 57 ∷ []
+unfolding date_text
+leap_day_text =
+    let same = same_date (pos 19782) 2024 2 29 (record { le = tt }, record { le = tt }) ((record { le = tt }, record { le = tt }), (lit≤ tt, lit≤ tt), (lit≤ tt, lit≤ tt)) leap_day_number in
+    let year : year_of (pos 19782) ≡ 2024 = ap unsigned_abs same.0 in
+    let month : month_of (pos 19782) ≡ 2 = same.1 in
+    let day : month_day_of (pos 19782) ≡ 29 = same.2 in
+    rw (year, month, day)
 
 -- ---- numbers that wrap
 

@@ -1,6 +1,7 @@
 pub mod AggregateFacts
 pub mod AggregateOrder
 pub mod AllowsFacts
+pub mod CallFacts
 pub mod CallTypes
 pub mod CastFacts
 pub mod ChosenFacts
@@ -13,6 +14,7 @@ pub mod JoinFacts
 pub mod KindFacts
 pub mod Multisets
 pub mod NodeFacts
+pub mod NullFacts
 pub mod OutcomeFacts
 pub mod Parts
 pub mod RangeFacts
@@ -21,6 +23,7 @@ pub mod RowCounts
 pub mod Sorted
 pub mod TypedValues
 pub mod TypesFacts
+pub mod TypingFacts
 pub mod ValueFacts
 pub mod WorkedFacts
 pub mod WorkedPlanFacts

@@ -10,7 +10,7 @@ use Rattle.cn_types.specs.declared.value.DataType.{DataType}
 use Rattle.cn_types.specs.declared.value.DataType.TheVariants as K
 use Rattle.cn_types.specs.declared.value.Value.{Value}
 use Rattle.cn_types.specs.declared.value.Value.TheVariants.{Null, Date}
-use Rattle.cn_types.specs.Fit.{HasType, HasDateInRange, HaveTypes, FitsTypes}
+use Rattle.cn_types.specs.Fit.{HasType, HasDateInRange, HaveTypes, FitsTypes, value_at}
 use Rattle.cn_types.specs.Order.{value_cmp}
 use Rattle.plan_model.specs.declared.expression.TypedExpr.{TypedExpr}
 use Rattle.plan_model.specs.declared.expression.TypedExpr.TheOpen as O
@@ -24,7 +24,7 @@ use Rattle.plan_model.specs.Functions.{call}
 use Rattle.plan_model.specs.FunctionTypes.{aggregate_type, wider, always}
 use Rattle.plan_model.specs.NodeTypes.{kind_of, kinds_of}
 use Rattle.plan_model.specs.Truth.{is_present}
-use Rattle.plan_model.specs.Val.{val, value_at}
+use Rattle.plan_model.specs.Val.{val}
 use Rattle.plan_model.specs.ValueLaws.{ValuesHaveTheirType}
 use Rattle.plan_model.specs.WellFormed.{IsFormOver, IsOver}
 use Rattle.plan_model.proofs.AggregateFacts.{extremes}
@@ -61,7 +61,7 @@ module _ (columns : List DataType) where
   forms : Forms IsTyped
   forms = record {
     column = λ place kind over row fits.
-        typed_form (V.Column place kind) row kind (value_at row place) (kind_of-Column place kind) (values_of_forms.column place kind row)
+        typed_form (V.Column place kind) row kind (value_at place row) (kind_of-Column place kind) (values_of_forms.column place kind row)
         (column_typed kind columns row.0 place (every_here (IsFormOver columns) (V.Column place kind) (O.Column place kind) (V.outs-Column place kind) over) fits);
     literal = λ value kind over row fits.
         typed_form (V.Literal value kind) row kind value (kind_of-Literal value kind) (values_of_forms.literal value kind row)

@@ -3,6 +3,7 @@ use Rattle.std.proofs.Common.{◌≡◌, ℕ, List, [], ◌∷◌, map, refl, sy
 use Rattle.cn_types.specs.declared.row.Row.{Row}
 use Rattle.cn_types.specs.declared.value.DataType.{DataType}
 use Rattle.cn_types.specs.declared.value.Value.{Value}
+use Rattle.cn_types.specs.Fit.{value_at}
 use Rattle.plan_model.specs.declared.function.Function.{Function}
 use Rattle.plan_model.specs.declared.expression.TypedExpr.{TypedExpr}
 use Rattle.plan_model.specs.declared.expression.TypedExpr.TheOpen.{TypedExpr-F}
@@ -10,7 +11,7 @@ use Rattle.plan_model.specs.declared.expression.TypedExpr.TheFolds.{fold-roll-Ty
 use Rattle.plan_model.specs.declared.expression.TypedExpr.TheVariants.{Column, Literal, Call, Cast, rolls-Column, rolls-Literal, rolls-Call, rolls-Cast}
 use Rattle.plan_model.specs.Casts.{cast_to}
 use Rattle.plan_model.specs.Functions.{call}
-use Rattle.plan_model.specs.Val.{Meaning, val_step, val, value_at}
+use Rattle.plan_model.specs.Val.{Meaning, val_step, val}
 use Rattle.plan_model.specs.ValueLaws.{ValuesOfForms}
 
 -- the value of an expression at a row
@@ -20,7 +21,7 @@ at_row row e = val e row
 abbrev apply_at : Row → Meaning → Value
 apply_at row meaning = meaning row
 
-val-Column : (place : ℕ) (kind : DataType) (row : Row) → val (Column place kind) row ≡ value_at row place
+val-Column : (place : ℕ) (kind : DataType) (row : Row) → val (Column place kind) row ≡ value_at place row
 val-Column place kind row =
     ap (at_row row) (sym (rolls-Column place kind)) ∙ ap (apply_at row) (fold-roll-TypedExpr Meaning val_step (TypedExpr-F.Column place kind))
 

@@ -5,6 +5,7 @@ use Rattle.cn_types.specs.declared.schema.Schema.{Schema}
 use Rattle.cn_types.specs.declared.value.DataType.{DataType}
 use Rattle.cn_types.specs.declared.value.Value.{Value}
 use Rattle.cn_types.specs.declared.value.Value.TheVariants.{Null, Long}
+use Rattle.cn_types.specs.Fit.{value_at}
 use Rattle.cn_types.specs.Order.{count, row_eq}
 use Rattle.plan_model.specs.declared.expression.TypedExpr.{TypedExpr}
 use Rattle.plan_model.specs.declared.expression.TypedExpr.TheVariants.{Call}
@@ -26,7 +27,7 @@ use Rattle.plan_model.specs.Outcomes.{Evaluated, Allowed, Bounded, After, limite
 use Rattle.plan_model.specs.Selections.{image, projected}
 use Rattle.plan_model.specs.SetOperations.{IsSetOperation}
 use Rattle.plan_model.specs.Truth.{is_true}
-use Rattle.plan_model.specs.Val.{val, value_at}
+use Rattle.plan_model.specs.Val.{val}
 use Rattle.plan_model.specs.WorkedPlans.{row_with, key_field, given, seven, one, two, null, first, second, whole, sum_call, distinct_call, full_join, InAnyOrder, InThisOrder}
 use Rattle.plan_model.proofs.AllowsFacts.{Allows-Rows, Allows-Project, Allows-Join, Allows-SetOp, Allows-Aggregate}
 use Rattle.plan_model.proofs.Determined.{determined_outcomes_alike}
@@ -155,11 +156,11 @@ abbrev same_keys : TypedExpr
 same_keys = Call Function.EqualTo (first ∷ second ∷ []) DataType.Boolean
 
 -- a function of both columns
-val_pair : (function : Function) (kind : DataType) (row : Row) → val (Call function (first ∷ second ∷ []) kind) row ≡ call function kind (value_at row 0 ∷ value_at row 1 ∷ [])
+val_pair : (function : Function) (kind : DataType) (row : Row) → val (Call function (first ∷ second ∷ []) kind) row ≡ call function kind (value_at 0 row ∷ value_at 1 row ∷ [])
 val_pair function kind row =
     values_of_forms.call_form function (first ∷ second ∷ []) kind row
     ∙ ap (λ (v : Value). call function kind (v ∷ val second row ∷ [])) (values_of_forms.column 0 DataType.Long row)
-    ∙ ap (λ (v : Value). call function kind (value_at row 0 ∷ v ∷ [])) (values_of_forms.column 1 DataType.Long row)
+    ∙ ap (λ (v : Value). call function kind (value_at 0 row ∷ v ∷ [])) (values_of_forms.column 1 DataType.Long row)
 
 full_of_none : (matching : Row → Row → Bool) (left_nulls right_nulls a c b d : Row) → matching a b ≡ false → matching a d ≡ false → matching c b ≡ false → matching c d ≡ false
     → joined JoinKind.Full (record { matching = matching; left_nulls = left_nulls; right_nulls = right_nulls }) (a ∷ c ∷ []) (b ∷ d ∷ [])
@@ -187,7 +188,7 @@ join_node = V.Join (given left_rows) (given right_rows) JoinKind.Full (Some same
 nulls_of : (rows : List Row) → nulls (types (given rows)) ≡ null
 nulls_of rows = ap nulls (types-Rows key_schema rows)
 
-matched : (left right : Row) → matches (Some same_keys) left right ≡ is_true (call Function.EqualTo DataType.Boolean (value_at (beside left right) 0 ∷ value_at (beside left right) 1 ∷ []))
+matched : (left right : Row) → matches (Some same_keys) left right ≡ is_true (call Function.EqualTo DataType.Boolean (value_at 0 (beside left right) ∷ value_at 1 (beside left right) ∷ []))
 matched left right = ap is_true (val_pair Function.EqualTo DataType.Boolean (beside left right))
 
 joined_is : joined JoinKind.Full by_key left_rows right_rows ≡ joined_rows
@@ -198,7 +199,7 @@ joined_is =
     ∙ ap (λ (nothing : Row). beside one nothing ∷ beside null nothing ∷ beside (nulls (types (given left_rows))) null ∷ beside (nulls (types (given left_rows))) two ∷ []) (nulls_of right_rows)
     ∙ ap (λ (nothing : Row). beside one null ∷ beside null null ∷ beside nothing null ∷ beside nothing two ∷ []) (nulls_of left_rows)
 
-image_is : (row : Row) (value : Value) → call Function.Coalesce DataType.Long (value_at row 0 ∷ value_at row 1 ∷ []) ≡ value → image (coalesced ∷ []) row ≡ row_with value
+image_is : (row : Row) (value : Value) → call Function.Coalesce DataType.Long (value_at 0 row ∷ value_at 1 row ∷ []) ≡ value → image (coalesced ∷ []) row ≡ row_with value
 image_is row value e = ap row_with (val_pair Function.Coalesce DataType.Long row ∙ e)
 
 images_are : projected (coalesced ∷ []) joined_rows ≡ key_rows

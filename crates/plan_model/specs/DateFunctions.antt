@@ -1,11 +1,12 @@
 -- Date functions of Spark SQL, on days from 0001-01-01 to 9999-12-31, counted from 1970-01-01.
-use Rattle.std.specs.Prelude.{ℕ, ℤ, pos, negsuc, ◌-ℤ◌, int_le, Bool, ◌&&◌, if◌then◌else◌}
+use Rattle.std.specs.Prelude.{ℕ, ℤ, pos, ◌-ℤ◌, int_le, Bool, ◌&&◌, if◌then◌else◌}
+use Rattle.cn_types.specs.Fit.{first_day, last_day}
 use Rattle.cn_types.specs.declared.value.Value.{Value}
 use Rattle.cn_types.specs.declared.value.Value.TheVariants.{Null, Integer, Date}
 
 -- the day is in range
 abbrev pub is_day : ℤ → Bool
-is_day day = int_le (negsuc 719161) day && int_le day (pos 2932896)
+is_day day = int_le first_day day && int_le day last_day
 
 -- the date of a day, or null out of range
 abbrev pub date_in_range : ℤ → Value

@@ -1,13 +1,13 @@
 -- Groups of rows with the same values: GROUP BY, and DISTINCT on columns. Null is the same as null.
 use Rattle.std.specs.Prelude.{◌≡◌, ℕ, ◌<◌, List, [], ◌∷◌, ◌++◌, map, filter}
 use Rattle.cn_types.specs.declared.row.Row.{Row}
+use Rattle.cn_types.specs.Fit.{value_at}
 use Rattle.cn_types.specs.Order.{count, row_eq}
 use Rattle.plan_model.specs.declared.expression.TypedExpr.{TypedExpr}
 use Rattle.plan_model.specs.declared.node.AggregateCall.{AggregateCall}
 use Rattle.plan_model.specs.Aggregates.{call_value}
 use Rattle.plan_model.specs.Counts.{HasEachOnce}
 use Rattle.plan_model.specs.Selections.{image}
-use Rattle.plan_model.specs.Val.{value_at}
 
 -- the key values of the rows; one key without values where there are no keys
 abbrev pub key_values : List TypedExpr → List Row → List Row
@@ -34,7 +34,7 @@ pub record IsAggregate (keys : List TypedExpr) (calls : List AggregateCall) (ite
 
 -- the row's values in these columns
 abbrev pub columns_of : List ℕ → Row → Row
-columns_of columns row = record { 0 = map (value_at row) columns }
+columns_of columns row = record { 0 = map (λ column. value_at column row) columns }
 
 -- one of the rows for each different value of the columns, in any order
 pub record IsDistinctOn (columns : List ℕ) (rows list : List Row) : Type 0 where

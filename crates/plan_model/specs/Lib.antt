@@ -4,6 +4,7 @@ pub mod AggregateLaws
 pub mod Aggregates
 pub mod Allows
 pub mod Arithmetic
+pub mod CallLaws
 pub mod Casts
 pub mod Chosen
 pub mod Comparisons
@@ -27,8 +28,10 @@ pub mod SetOperations
 pub mod Sorting
 pub mod Texts
 pub mod Truth
+pub mod TypingLaws
 pub mod Val
 pub mod ValueLaws
 pub mod WellFormed
 pub mod WorkedPlans
 pub mod WorkedRows
+pub mod WorkedTypes

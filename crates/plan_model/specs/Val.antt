@@ -1,8 +1,8 @@
 -- The value of an expression over a row.
-use Rattle.std.specs.Prelude.{ℕ, map, slice_get, unwrap_or}
+use Rattle.std.specs.Prelude.{map}
 use Rattle.cn_types.specs.declared.row.Row.{Row}
 use Rattle.cn_types.specs.declared.value.Value.{Value}
-use Rattle.cn_types.specs.declared.value.Value.TheVariants.{Null}
+use Rattle.cn_types.specs.Fit.{value_at}
 use Rattle.plan_model.specs.declared.expression.TypedExpr.{TypedExpr}
 use Rattle.plan_model.specs.declared.expression.TypedExpr.TheOpen.{TypedExpr-F}
 use Rattle.plan_model.specs.declared.expression.TypedExpr.TheFolds.{fold-TypedExpr}
@@ -13,13 +13,9 @@ use Rattle.plan_model.specs.Functions.{call}
 abbrev pub Meaning : Type 0
 Meaning = Row → Value
 
--- the row's value at a place, null past its end
-abbrev pub value_at : Row → ℕ → Value
-value_at row place = unwrap_or (slice_get row.0 place) Null
-
 -- one expression, with the meaning of each child in its place
 abbrev pub val_step : TypedExpr-F Meaning → Meaning
-val_step (TypedExpr-F.Column place kind) row = value_at row place
+val_step (TypedExpr-F.Column place kind) row = value_at place row
 val_step (TypedExpr-F.Literal value kind) row = value
 val_step (TypedExpr-F.Call function arguments kind) row = call function kind (map (λ argument. argument row) arguments)
 val_step (TypedExpr-F.Cast child kind) row = cast_to kind (child row)

@@ -3,7 +3,7 @@ use Rattle.std.specs.Prelude.{◌≡◌, ◌↔◌, ℕ, ℤ, IsTrue, List, ◌+
 use Rattle.cn_types.specs.declared.row.Row.{Row}
 use Rattle.cn_types.specs.declared.value.DataType.{DataType}
 use Rattle.cn_types.specs.declared.value.Value.{Value}
-use Rattle.cn_types.specs.Fit.{HasType, HasDateInRange, IsDay, FitsTypes}
+use Rattle.cn_types.specs.Fit.{HasType, HasDateInRange, IsDay, FitsTypes, value_at}
 use Rattle.plan_model.specs.declared.function.Function.{Function}
 use Rattle.plan_model.specs.declared.expression.TypedExpr.{TypedExpr}
 use Rattle.plan_model.specs.declared.expression.TypedExpr.TheVariants.{Column, Literal, Call, Cast}
@@ -12,12 +12,12 @@ use Rattle.plan_model.specs.DateFunctions.{is_day}
 use Rattle.plan_model.specs.Functions.{call}
 use Rattle.plan_model.specs.NodeTypes.{kind_of}
 use Rattle.plan_model.specs.Texts.{has_part}
-use Rattle.plan_model.specs.Val.{val, value_at}
+use Rattle.plan_model.specs.Val.{val}
 use Rattle.plan_model.specs.WellFormed.{IsOver}
 
 -- the value of each form of expression, by the values of its children
 pub record ValuesOfForms : Type 0 where
-  pub column : (place : ℕ) (kind : DataType) (row : Row) → val (Column place kind) row ≡ value_at row place
+  pub column : (place : ℕ) (kind : DataType) (row : Row) → val (Column place kind) row ≡ value_at place row
   pub literal : (value : Value) (kind : DataType) (row : Row) → val (Literal value kind) row ≡ value
   pub call_form : (function : Function) (arguments : List TypedExpr) (kind : DataType) (row : Row) → val (Call function arguments kind) row ≡ call function kind (map (λ argument. val argument row) arguments)
   pub cast : (child : TypedExpr) (kind : DataType) (row : Row) → val (Cast child kind) row ≡ cast_to kind (val child row)

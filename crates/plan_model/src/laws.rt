@@ -1,8 +1,11 @@
 ghost use Rattle.plan_model.specs.LogicLaws.{TruthTables, TruthCommutes, DeMorgan, EqualityTellsSameness, NullSafeEqualityTellsSameness};
 ghost use Rattle.plan_model.specs.AggregateLaws.{NoValues, CountsAreNeverNull, TotalsAddUp, ExtremesAreReached, CallsHaveTheirType, CallsIgnoreOrder, DistinctValuesAreCounted};
+ghost use Rattle.plan_model.specs.CallLaws.{ComparisonsFollowTheOrder, ArithmeticWraps, WhenTakesTheFirst, CoalesceTakesTheFirst, InTellsMembers, TextsAreMadeOfParts, DaysMove, NullsAreTold};
 ghost use Rattle.plan_model.specs.FunctionLaws.{NumbersWrap, TextsStartAndEnd, DatePartsAreOfTheCalendar};
+ghost use Rattle.plan_model.specs.TypingLaws.{CallsAreOfTheTable, AggregatesAreOfTheTable};
 ghost use Rattle.plan_model.specs.ValueLaws.{ValuesOfForms, CastsGiveTheType, DaysAreTested, PartsAreWithin, ValuesHaveTheirType};
-ghost use Rattle.plan_model.specs.WorkedRows.{WorkedNumbers, WorkedTruths, WorkedTextsAndDates, WorkedCasts, WorkedAggregates};
+ghost use Rattle.plan_model.specs.WorkedRows.{WorkedNumbers, WorkedTruths, WorkedComparisons, WorkedTextsAndDates, WorkedCasts, WorkedAggregates};
+ghost use Rattle.plan_model.specs.WorkedTypes.{WorkedCallTypes, WorkedAggregateTypes, CastsOfTypes};
 
 use cn_types::{equal_values_are_the_same, values_are_ordered};
 
@@ -112,11 +115,66 @@ pub fn date_parts_are_of_the_calendar()
     ensures { DatePartsAreOfTheCalendar }
 {}
 
+/// Law: comparisons follow the one order of values, in which an integer beside a long counts as that long.
+pub fn comparisons_follow_the_order()
+    ensures { ComparisonsFollowTheOrder }
+{}
+
+/// Law: arithmetic of numbers is exact and then wrapped to the type of the call; a division goes towards zero.
+pub fn arithmetic_wraps()
+    ensures { ArithmeticWraps }
+{}
+
+/// Law: `when` gives the value behind the first true condition, else the last value without a condition, else null.
+pub fn when_takes_the_first()
+    ensures { WhenTakesTheFirst }
+{}
+
+/// Law: `coalesce` gives the first value that is not null.
+pub fn coalesce_takes_the_first()
+    ensures { CoalesceTakesTheFirst }
+{}
+
+/// Law: `in` is true where the value equals some other, false where it equals none of them, and else null.
+pub fn in_tells_members()
+    ensures { InTellsMembers }
+{}
+
+/// Law: `concat` joins texts, `length` counts the characters that a text encodes, and `startswith`, `endswith` and `contains` tell parts.
+pub fn texts_are_made_of_parts()
+    ensures { TextsAreMadeOfParts }
+{}
+
+/// Law: `date_add` and `date_sub` move a date to a date in range, and `datediff` counts the days between two.
+pub fn days_move()
+    ensures { DaysMove }
+{}
+
+/// Law: a null argument makes a call null, but for the functions that treat null; without one a call is null for a zero divisor, a day out
+/// of range or a `when` without a true condition alone.
+pub fn nulls_are_told()
+    ensures { NullsAreTold }
+{}
+
 /// Law: values of Spark SQL's functions, casts and aggregates, written out.
 pub fn worked_rows_hold()
     ensures numbers { WorkedNumbers }
     ensures truths { WorkedTruths }
+    ensures comparisons { WorkedComparisons }
     ensures texts_and_dates { WorkedTextsAndDates }
     ensures casts { WorkedCasts }
     ensures aggregates { WorkedAggregates }
+{}
+
+/// Law: a call has a type exactly where a line of the table of functions allows it, and an aggregate likewise.
+pub fn calls_are_of_the_table()
+    ensures calls { CallsAreOfTheTable }
+    ensures aggregates { AggregatesAreOfTheTable }
+{}
+
+/// Law: types of calls and of aggregates, written out, and for each two types whether there is a cast from one to the other.
+pub fn worked_types_hold()
+    ensures calls { WorkedCallTypes }
+    ensures aggregates { WorkedAggregateTypes }
+    ensures casts { CastsOfTypes }
 {}

@@ -16,12 +16,14 @@ mod tests;
 pub use expression::TypedExpr;
 pub use function::Function;
 pub use laws::{
-    calls_have_their_type, calls_ignore_order, casts_give_the_type, counts_are_never_null,
-    date_parts_are_of_the_calendar, days_are_tested, de_morgan_holds, distinct_values_are_counted,
-    equality_tells_sameness, extremes_are_reached, no_values_sum_to_null,
-    null_safe_equality_tells_sameness, numbers_wrap, parts_are_within, texts_start_and_end,
-    totals_add_up, truth_commutes, truth_tables_are_three_valued, values_follow_the_form,
-    values_have_their_type, worked_rows_hold,
+    arithmetic_wraps, calls_are_of_the_table, calls_have_their_type, calls_ignore_order,
+    casts_give_the_type, coalesce_takes_the_first, comparisons_follow_the_order,
+    counts_are_never_null, date_parts_are_of_the_calendar, days_are_tested, days_move,
+    de_morgan_holds, distinct_values_are_counted, equality_tells_sameness, extremes_are_reached,
+    in_tells_members, no_values_sum_to_null, null_safe_equality_tells_sameness, nulls_are_told,
+    numbers_wrap, parts_are_within, texts_are_made_of_parts, texts_start_and_end, totals_add_up,
+    truth_commutes, truth_tables_are_three_valued, values_follow_the_form, values_have_their_type,
+    when_takes_the_first, worked_rows_hold, worked_types_hold,
 };
 pub use node::{AggregateCall, JoinKind, Node, SetKind, SortKey};
 pub use outcome::Outcome;
