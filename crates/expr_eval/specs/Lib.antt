@@ -1,0 +1,5 @@
+-- What the evaluation of expressions is stated by, beside the meaning of expressions.
+pub mod Dated
+pub mod Forms
+pub mod Operands
+pub mod Operations

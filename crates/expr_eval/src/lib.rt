@@ -1,0 +1,17 @@
+//! The values of expressions over rows: columns, literals, the built-in functions of Spark SQL, and casts.
+#![tactic(auto)]
+
+mod arithmetic;
+mod casts;
+mod comparisons;
+mod conditionals;
+mod dates;
+mod forms;
+mod lists;
+mod operand;
+mod texts;
+mod truth;
+mod values;
+
+pub use operand::Operand;
+pub use values::{holds, operand_of, value};
