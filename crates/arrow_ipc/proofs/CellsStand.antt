@@ -12,7 +12,7 @@ use Rattle.cn_types.specs.declared.value.Value.{Value}
 use Rattle.cn_types.specs.declared.value.Value.TheVariants as V
 use Rattle.flat_tables.specs.Reading.{i32_at, i64_at}
 use Rattle.arrow_ipc.specs.Columns.{has_value, null_count, truth, bytes_of_4, bytes_of_8, text_of, text_size, number_of, bitmap, validity, offsets}
-use Rattle.arrow_ipc.specs.Holds.{IsBitOf, IsPresent, TextStands, OffsetsRise}
+use Rattle.arrow_ipc.specs.Holds.{IsBitOf, IsPresent, TextStands, OffsetsBegin, OffsetsRise, OffsetsStand}
 use Rattle.flat_tables.proofs.Standing.{Stands, first, second, taken, uniform, i32_there}
 use Rattle.arrow_ipc.proofs.Standing.{whole, long_there, n32_there}
 
@@ -221,7 +221,7 @@ offset_is values row small h =
     n32_there (offsets 0 values) (4 * row) (before row values) fits
     (subst (λ (k : ℕ). Stands (offsets 0 values) k (to_le_bytes w32 (before row values))) p (subst (λ (k : ℕ). Stands (offsets 0 values) (0 + 4 * row) (to_le_bytes w32 k)) n (offset_there 0 row values (offsets 0 values) 0 h (whole (offsets 0 values)))))
 
-pub offsets_rise : (values : List Value) → length (flat_map text_of values) < 2 ^ 31 → OffsetsRise (length values) (offsets 0 values) (flat_map text_of values)
+offsets_rise : (values : List Value) → length (flat_map text_of values) < 2 ^ 31 → OffsetsRise (length values) (offsets 0 values) (flat_map text_of values)
 offsets_rise values small row h =
     let here : row ≤ length values = omega arith in
     let there : row + 1 ≤ length values = omega arith in
@@ -233,6 +233,12 @@ offsets_rise values small row h =
       subst (λ (k : ℕ). before row values ≤ before k values) (sym next) (before_next row values),
       before_le (row + 1) values,
     )
+
+offsets_begin : (values : List Value) → length (flat_map text_of values) < 2 ^ 31 → OffsetsBegin (offsets 0 values) (flat_map text_of values)
+offsets_begin values small = (0, offset_is values 0 small (omega arith), omega arith)
+
+pub offsets_stand : (values : List Value) → length (flat_map text_of values) < 2 ^ 31 → OffsetsStand (length values) (offsets 0 values) (flat_map text_of values)
+offsets_stand values small = inr (offsets_begin values small, offsets_rise values small)
 
 pub text_stands : (values : List Value) (row : ℕ) (text : List ℕ) → length (flat_map text_of values) < 2 ^ 31 → slice_get values row ≡ Some (V.Text text) → TextStands (offsets 0 values) (flat_map text_of values) row text
 text_stands values row text small e =

@@ -21,7 +21,8 @@ use Rattle.flat_tables.specs.declared.object.FlatPair.{FlatPair}
 use Rattle.flat_tables.specs.Layout.{layout, padded, CanBePut, IsTable, IsBuildable, OnNamed}
 use Rattle.flat_tables.specs.ObjectSizes.{SizesAddUp, size}
 use Rattle.flat_tables.specs.ObjectLaws.{IsTable-Table, IsBuildable-Table, IsBuildable-Tables, IsBuildable-Pairs, IsBuildable-Text}
-use Rattle.arrow_ipc.specs.Columns.{value_at, cells, text_of, text_size, column_buffers, buffers_from, spans_from, nodes_from, body_of}
+use Rattle.cn_types.specs.Fit.{value_at}
+use Rattle.arrow_ipc.specs.Columns.{cells, text_of, text_size, column_buffers, buffers_from, spans_from, nodes_from, body_of}
 use Rattle.arrow_ipc.specs.Messages.{type_number, type_table, field_table, schema_table, batch_table, message_table, schema_message, batch_message}
 use Rattle.arrow_ipc.specs.Stream.{CanBeWritten}
 

@@ -4,10 +4,10 @@ use Rattle.std.specs.Prelude.{pos, slice_get, unwrap_or, FitsSigned}
 use Rattle.std.specs.List.{All, AllByRecursion, flat_map}
 use Rattle.std.specs.Int.{w32, w64, to_le_bytes}
 use Rattle.std.proofs.lemmas.Int.{ints}
-use Rattle.std.proofs.lemmas.List.{append_assoc, append-nil}
+use Rattle.std.proofs.lemmas.List.{append_assoc}
 use Rattle.std.proofs.lemmas.List.Sums.{count_by-le-length}
 use Rattle.std.proofs.lemmas.List.Elements.{All-from_recursion, recursion_from_All}
-use Rattle.cn_types.specs.Fit.{HasType, HaveTypes, Fits}
+use Rattle.cn_types.specs.Fit.{HasType, HaveTypes, Fits, IsValue}
 use Rattle.cn_types.specs.declared.value.Value.{Value}
 use Rattle.cn_types.specs.declared.value.Value.TheVariants as V
 use Rattle.cn_types.specs.declared.value.DataType.{DataType}
@@ -29,12 +29,12 @@ use Rattle.flat_tables.specs.ObjectLaws.{HasFittingNumbers-Table, HasFittingNumb
 use Rattle.arrow_ipc.specs.Columns.{cells, has_value, null_count, text_of, bitmap, truth, bytes_of_4, bytes_of_8, offsets, validity, column_buffers, value_buffers, buffers_from, body_of, spans_from, node_of, nodes_from}
 use Rattle.arrow_ipc.specs.Messages.{batch_table, message_table, schema_message, batch_message}
 use Rattle.arrow_ipc.specs.Stream.{mark, end_mark, message_bytes, stream_of, CanBeWritten}
-use Rattle.arrow_ipc.specs.Holds.{or_absent, PairIs, BufferAt, BuffersAt, AreLongEnough, CellStands, ColumnsHold, BatchHolds, EndMarkAt, IsValue, AreInMemory, WrittenStreamsHold, buffer_count}
+use Rattle.arrow_ipc.specs.Holds.{or_absent, PairIs, BufferAt, BuffersAt, AreLongEnough, CellStands, ColumnsHold, BatchHolds, EndMarkAt, AreInMemory, WrittenStreamsHold, buffer_count}
 use Rattle.arrow_ipc.specs.Holds.{over, batch}
 use Rattle.arrow_ipc.proofs.Sizes.{batch_can_be_put, texts_below}
 use Rattle.flat_tables.proofs.Standing.{Stands, first, second, within, taken}
 use Rattle.arrow_ipc.proofs.Standing.{whole, n32_there}
-use Rattle.arrow_ipc.proofs.CellsStand.{present, missing, validity_long, bits_long, truth_stands, length-4s, length-8s, integer_stands, date_stands, long_stands, offsets_rise, text_stands}
+use Rattle.arrow_ipc.proofs.CellsStand.{present, missing, validity_long, bits_long, truth_stands, length-4s, length-8s, integer_stands, date_stands, long_stands, offsets_stand, text_stands}
 use Rattle.arrow_ipc.proofs.FoundMessages.{found_pairs, field_read, get-map}
 use Rattle.arrow_ipc.proofs.FoundBatch.{placed, pair_is}
 use Rattle.arrow_ipc.proofs.WrittenSchema.{IsRead, message_is_read, message_numbers, begins_with_schema}
@@ -49,7 +49,7 @@ long_enough : (kind : DataType) (values : List Value) → length (flat_map text_
 long_enough K.Boolean values small = bits_long truth values
 long_enough K.Integer values small = length-4s values
 long_enough K.Long values small = length-8s values
-long_enough K.Text values small = offsets_rise values small
+long_enough K.Text values small = offsets_stand values small
 long_enough K.Date values small = length-4s values
 
 cell_stands : (kind : DataType) (values : List Value) (row : ℕ) (v : Value) → length (flat_map text_of values) < 2 ^ 31 → slice_get values row ≡ Some v → IsCell kind v → CellStands kind (validity values) (value_buffers kind values) row v

@@ -1,7 +1,8 @@
 -- The buffers of a column as they are written (Arrow Columnar Format, "Physical Memory Layout"). Numbers have their least byte first.
-use Rattle.std.specs.Prelude.{ℕ, ◌+◌, ◌*◌, ◌/◌, ◌%◌, ◌≡◌, ◌==◌, pos, Bool, true, false, not, if◌then◌else◌, List, [], ◌∷◌, ◌++◌, length, take, drop, map, count_by, unwrap_or, slice_get}
+use Rattle.std.specs.Prelude.{ℕ, ◌+◌, ◌*◌, ◌/◌, ◌%◌, ◌≡◌, ◌==◌, pos, Bool, true, false, not, if◌then◌else◌, List, [], ◌∷◌, ◌++◌, length, take, drop, map, count_by}
 use Rattle.std.specs.List.{flat_map, range_with_len}
 use Rattle.std.specs.Int.{w32, w64, to_le_bytes, cast_unsigned}
+use Rattle.cn_types.specs.Fit.{value_at}
 use Rattle.cn_types.specs.declared.value.Value.{Value}
 use Rattle.cn_types.specs.declared.value.Value.TheVariants as V
 use Rattle.cn_types.specs.declared.value.DataType.{DataType}
@@ -12,10 +13,6 @@ use Rattle.flat_tables.specs.declared.object.FlatPair.{FlatPair}
 use Rattle.flat_tables.specs.Layout.{zeros, padded}
 
 -- ---- cells
-
--- the value that a row has in a column, or null where the row is shorter
-abbrev pub value_at : ℕ → Row → Value
-value_at column row = unwrap_or (slice_get row.0 column) V.Null
 
 -- a column's values, from the first row on
 abbrev pub cells : ℕ → List Row → List Value

@@ -1,8 +1,8 @@
 -- What a stream holds (Arrow Columnar Format, "IPC Streaming Format", "Encapsulated message format", "Physical Memory Layout"; Message.fbs
 -- and Schema.fbs), one cell at a time.
-use Rattle.std.specs.Prelude.{◌≡◌, ◌≢◌, ◌↔◌, ◌⊎◌, ℕ, ◌+◌, ◌-◌, ◌*◌, ◌/◌, ◌%◌, ◌^◌, ◌<◌, ◌≤◌, ℤ, pos, List, [], ◌∷◌, length, take, drop, slice_index, slice_get, Option, None, Some, Result, Ok, Err, Bool, All, IsTrue, IsUtf8, FitsSigned}
-use Rattle.std.specs.Int.{w32, w64, bit_at}
-use Rattle.cn_types.specs.Fit.{IsDay}
+use Rattle.std.specs.Prelude.{◌≡◌, ◌≢◌, ◌↔◌, ◌⊎◌, ℕ, ◌+◌, ◌-◌, ◌*◌, ◌/◌, ◌%◌, ◌^◌, ◌<◌, ◌≤◌, ℤ, pos, List, [], ◌∷◌, length, take, drop, slice_index, slice_get, Option, None, Some, Result, Ok, Err, Bool, All, IsTrue, IsUtf8}
+use Rattle.std.specs.Int.{bit_at}
+use Rattle.cn_types.specs.Fit.{IsDay, IsValue}
 use Rattle.cn_types.specs.declared.value.Value.{Value}
 use Rattle.cn_types.specs.declared.value.Value.TheVariants as V
 use Rattle.cn_types.specs.declared.value.DataType.{DataType}
@@ -160,12 +160,21 @@ abbrev pub OffsetsRise : ℕ → List ℕ → List ℕ → Type 0
 OffsetsRise count offsets texts =
     (row : ℕ) → row < count → (from : ℕ) × (to : ℕ) × (i32_at offsets (4 * row) ≡ Ok (pos from)) × (i32_at offsets (4 * (row + 1)) ≡ Ok (pos to)) × (from ≤ to) × (to ≤ length texts)
 
+-- there is a first offset, which lies in the texts. The offsets of no row are one number
+abbrev pub OffsetsBegin : List ℕ → List ℕ → Type 0
+OffsetsBegin offsets texts = (from : ℕ) × (i32_at offsets 0 ≡ Ok (pos from)) × (from ≤ length texts)
+
+-- there are as many offsets as rows and one more, which rise within the texts; a column without rows may have a buffer without a byte in
+-- their place
+abbrev pub OffsetsStand : ℕ → List ℕ → List ℕ → Type 0
+OffsetsStand count offsets texts = ((count ≡ 0) × (offsets ≡ [])) ⊎ (OffsetsBegin offsets texts × OffsetsRise count offsets texts)
+
 -- the buffers behind the validity are long enough for so many rows; they may be longer
 abbrev pub AreLongEnough : DataType → ℕ → List (List ℕ) → Type 0
 AreLongEnough K.Boolean count (bits ∷ []) = count ≤ 8 * length bits
 AreLongEnough K.Integer count (numbers ∷ []) = 4 * count ≤ length numbers
 AreLongEnough K.Long count (numbers ∷ []) = 8 * count ≤ length numbers
-AreLongEnough K.Text count (offsets ∷ texts ∷ []) = OffsetsRise count offsets texts
+AreLongEnough K.Text count (offsets ∷ texts ∷ []) = OffsetsStand count offsets texts
 AreLongEnough K.Date count (numbers ∷ []) = 4 * count ≤ length numbers
 AreLongEnough kind count buffers = ⊥
 
@@ -231,16 +240,7 @@ pub record Holds (bytes : List ℕ) (schema : Schema) (batches : List (List Row)
 
 -- ---- the law
 
--- a value of its Rust type
-abbrev pub IsValue : Value → Type 0
-IsValue V.Null = Unit {0}
-IsValue (V.Boolean truth) = Unit {0}
-IsValue (V.Integer number) = FitsSigned w32 number
-IsValue (V.Long number) = FitsSigned w64 number
-IsValue (V.Text text) = IsUtf8 text
-IsValue (V.Date days) = FitsSigned w32 days
-
--- names and values of their Rust types, and as many rows and bytes as memory can hold
+-- names and values as those of a program are, and as many rows and bytes as memory can hold
 pub record AreInMemory (schema : Schema) (rows : List Row) : Type 0 where
   pub names : All (λ field. IsUtf8 field.name) schema.0
   pub values : All (λ row. All IsValue row.0) rows

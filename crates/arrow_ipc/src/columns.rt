@@ -1,6 +1,7 @@
 ghost use Rattle.std.specs.Prelude.{◌≡◌, ◌+◌, ◌^◌, ◌<◌, ◌≤◌, ◌++◌, not, length, map, sum_by, count_by, IfOk, OnOk};
 ghost use Rattle.std.specs.List.{flat_map};
-ghost use Rattle.arrow_ipc.specs.Columns.{value_at, cells, has_value, truth, bytes_of_4, bytes_of_8, text_of, text_size, offsets, null_count};
+ghost use Rattle.cn_types.specs.Fit.{value_at};
+ghost use Rattle.arrow_ipc.specs.Columns.{cells, has_value, truth, bytes_of_4, bytes_of_8, text_of, text_size, offsets, null_count};
 
 use cn_base::OutOfMemory;
 use cn_types::{Row, Value};

@@ -1,18 +1,18 @@
 -- Pairs, buffers, bits, numbers and texts are read exactly where they stand.
-use Rattle.std.proofs.Common.{◌≡◌, ℕ, suc, ◌+◌, ◌-◌, ◌*◌, ◌/◌, ◌%◌, ◌<◌, ◌≤◌, inl, inr, Bool, true, false, cond, ltb, leb, ◌&&◌, ◌||◌, List, [], ◌∷◌, length, take, drop, Option, None, Some, Result, Ok, Err, arith, refl, ap, ◌∙◌, subst, sym, length-take, length-drop}
+use Rattle.std.proofs.Common.{◌≡◌, ℕ, suc, ◌+◌, ◌-◌, ◌*◌, ◌/◌, ◌%◌, ◌<◌, ◌≤◌, inl, inr, Bool, true, false, cond, eqb, ltb, leb, ◌&&◌, ◌||◌, List, [], ◌∷◌, length, take, drop, Option, None, Some, Result, Ok, Err, arith, refl, ap, ◌∙◌, subst, sym, length-take, length-drop}
 use Rattle.std.specs.Prelude.{ℤ, pos, unwrap_or, is_some, slice_index}
 use Rattle.std.specs.Result.{result_ok}
 use Rattle.std.specs.Int.{w32, w64, bit_at, from_le_bytes, cast_signed}
-use Rattle.std.proofs.lemmas.Bool.{ltb-true, leb-true, eqb-true, lt-ltb, le-leb, ne_eqb, and_parts, false_from_ne_true}
+use Rattle.std.proofs.lemmas.Bool.{ltb-true, leb-true, eqb-true, lt-ltb, le-leb, ne_eqb, and_parts, or_right, false_from_ne_true}
 use Rattle.std.proofs.lemmas.Option.{same_Some}
 use Rattle.flat_tables.specs.declared.fault.FlatFault.{FlatFault}
 use Rattle.flat_tables.specs.Views.{TableView, VectorView}
 use Rattle.flat_tables.specs.declared.fault.FlatFault.TheVariants.{OutOfRange}
 use Rattle.flat_tables.specs.Reading.{◌>>=◌, i32_at, i64_at, item_bytes, vector_field}
-use Rattle.arrow_ipc.specs.Holds.{PairIs, BufferAt, IsBitOf, IsPresent, TextStands, OffsetsRise}
+use Rattle.arrow_ipc.specs.Holds.{PairIs, BufferAt, IsBitOf, IsPresent, TextStands, OffsetsBegin, OffsetsRise, OffsetsStand}
 use Rattle.arrow_read.specs.declared.pair.Pair.{Pair}
 use Rattle.arrow_read.specs.Tables.{not_negative}
-use Rattle.arrow_read.specs.Columns.{pair_in, pair_at, span_of, buffer_at, bit_in, is_present, number_4, number_8, text_between, text_at, has_4s, has_8s, is_text_place, all_below}
+use Rattle.arrow_read.specs.Columns.{pair_in, pair_at, span_of, buffer_at, bit_in, is_present, number_4, number_8, text_between, text_at, has_4s, has_8s, is_text_place, all_below, first_offset, has_offsets}
 use Rattle.arrow_read.proofs.Chains.{same_Ok, ok_of, not_negative_is, is_not_negative}
 use Rattle.arrow_read.proofs.Steps.{bind_some, only_if}
 use Rattle.arrow_read.proofs.Below.{all_below_at, all_below_from}
@@ -178,15 +178,20 @@ text_made offsets texts row from to ef et l w =
 one_offset : (r : Result ℤ FlatFault) (a b : ℕ) → r ≡ Ok (pos a) → r ≡ Ok (pos b) → a ≡ b
 one_offset r a b e f = cc
 
+-- where there is a row, the offsets of all rows rise
+rise_of : (count row : ℕ) (offsets texts : List ℕ) → row < count → OffsetsStand count offsets texts → OffsetsRise count offsets texts
+rise_of count row offsets texts l (inl h) = absurd (omega (arith, h.0))
+rise_of count row offsets texts l (inr h) = h.1
+
 -- a text that stands behind rising offsets
-pub text_read : (offsets texts : List ℕ) (count row : ℕ) (text : List ℕ) → row < count → OffsetsRise count offsets texts → TextStands offsets texts row text → text_at offsets texts row ≡ Some text
-text_read offsets texts count row text l rise s =
-    let o = rise row l in
+pub text_read : (offsets texts : List ℕ) (count row : ℕ) (text : List ℕ) → row < count → OffsetsStand count offsets texts → TextStands offsets texts row text → text_at offsets texts row ≡ Some text
+text_read offsets texts count row text l stand s =
+    let o = rise_of count row offsets texts l stand row l in
     let same : o.1 ≡ s.to = one_offset (i32_at offsets (4 * (row + 1))) o.1 s.to o.3 s.to_is in
     let within : s.to ≤ length texts = subst (λ (n : ℕ). n ≤ length texts) same o.5 in
     text_made offsets texts row s.from s.to s.from_is s.to_is s.rises within ∙ ap (λ z. Some z) s.bytes
 
-pub offsets_rise : (count : ℕ) (offsets texts : List ℕ) → all_below count (is_text_place offsets texts) ≡ true → OffsetsRise count offsets texts
+offsets_rise : (count : ℕ) (offsets texts : List ℕ) → all_below count (is_text_place offsets texts) ≡ true → OffsetsRise count offsets texts
 offsets_rise count offsets texts h row l = by_text (text_at offsets texts row) refl (all_below_at count (is_text_place offsets texts) h row l)
   where
     by_text : (o : Option (List ℕ)) → text_at offsets texts row ≡ o → is_some o ≡ true
@@ -197,9 +202,56 @@ offsets_rise count offsets texts h row l = by_text (text_at offsets texts row) r
         (s.0.from, s.0.to, s.0.from_is, s.0.to_is, s.0.rises, subst (λ (n : ℕ). n ≤ length texts) same s.1.2)
     by_text None e k = absurd (cc)
 
-pub rising_offsets : (count : ℕ) (offsets texts : List ℕ) → OffsetsRise count offsets texts → all_below count (is_text_place offsets texts) ≡ true
+rising_offsets : (count : ℕ) (offsets texts : List ℕ) → OffsetsRise count offsets texts → all_below count (is_text_place offsets texts) ≡ true
 rising_offsets count offsets texts h =
     all_below_from count (is_text_place offsets texts) (λ row l. let o = h row l in ap is_some (text_made offsets texts row o.0 o.1 o.2 o.3 o.4 o.5))
+
+-- the first offset
+offsets_begin : (offsets texts : List ℕ) (from : ℕ) → first_offset offsets texts ≡ Some from → OffsetsBegin offsets texts
+unfolding first_offset
+offsets_begin offsets texts from h =
+    let (number, en, k1) = bind_some (number_4 offsets 0) _ from h in
+    let (found, ef, k2) = bind_some (not_negative number) _ from k1 in
+    let t = only_if (leb found (length texts)) _ from k2 in
+    (found, ok_of (i32_at offsets 0) number en ∙ ap (λ z. Ok z) (not_negative_is number found ef), leb-true found (length texts) t.0)
+
+begun_offsets : (offsets texts : List ℕ) → OffsetsBegin offsets texts → is_some (first_offset offsets texts) ≡ true
+unfolding first_offset
+begun_offsets offsets texts h = rw h.1 (rw (is_not_negative h.0, le-leb h.0 (length texts) h.2) refl)
+
+some_of : {A : Type 0} → (o : Option A) → is_some o ≡ true → (x : A) × (o ≡ Some x)
+some_of (Some x) h = (x, refl)
+some_of None h = absurd (cc)
+
+no_byte : (bytes : List ℕ) → eqb (length bytes) 0 ≡ true → bytes ≡ []
+no_byte [] h = refl
+no_byte (byte ∷ bytes) h = let zero_is : suc (length bytes) ≡ 0 = eqb-true (suc (length bytes)) 0 h in absurd (omega arith)
+
+-- all offsets
+pub offsets_stand : (count : ℕ) (offsets texts : List ℕ) → has_offsets count offsets texts ≡ true → OffsetsStand count offsets texts
+unfolding has_offsets
+offsets_stand count offsets texts h = by_test (eqb count 0 && eqb (length offsets) 0) refl h
+  where
+    more : Bool
+    more = is_some (first_offset offsets texts) && all_below count (is_text_place offsets texts)
+
+    by_test : (b : Bool) → (eqb count 0 && eqb (length offsets) 0) ≡ b → (b || more) ≡ true → OffsetsStand count offsets texts
+    by_test true e k = let p = and_parts (eqb count 0) (eqb (length offsets) 0) e in inl (eqb-true count 0 p.0, no_byte offsets p.1)
+    by_test false e k =
+        let p = and_parts (is_some (first_offset offsets texts)) (all_below count (is_text_place offsets texts)) k in
+        let first = some_of (first_offset offsets texts) p.0 in
+        inr (offsets_begin offsets texts first.0 first.1, offsets_rise count offsets texts p.1)
+
+pub standing_offsets : (count : ℕ) (offsets texts : List ℕ) → OffsetsStand count offsets texts → has_offsets count offsets texts ≡ true
+unfolding has_offsets
+standing_offsets count offsets texts (inl h) = rw (h.0, h.1) refl
+standing_offsets count offsets texts (inr h) =
+    or_right (eqb count 0 && eqb (length offsets) 0) (is_some (first_offset offsets texts) && all_below count (is_text_place offsets texts))
+    (rw (begun_offsets offsets texts h.0, rising_offsets count offsets texts h.1) refl)
+
+-- a row has a text
+pub text_place : (count row : ℕ) (offsets texts : List ℕ) → row < count → has_offsets count offsets texts ≡ true → is_text_place offsets texts row ≡ true
+text_place count row offsets texts l h = all_below_at count (is_text_place offsets texts) (rising_offsets count offsets texts (rise_of count row offsets texts l (offsets_stand count offsets texts h))) row l
 
 pub within_of : (b : List ℕ) (at : ℕ) (z : ℤ) → i32_at b at ≡ Ok z → at + 4 ≤ length b
 unfolding i32_at

@@ -15,15 +15,15 @@ use Rattle.arrow_read.specs.declared.fault.ArrowFault.TheVariants.{BadLength, Ba
 use Rattle.arrow_read.specs.declared.pair.Pair.{Pair}
 use Rattle.arrow_read.specs.declared.batch.BatchTables.{BatchTables}
 use Rattle.arrow_read.specs.Tables.{utf8}
-use Rattle.arrow_read.specs.Columns.{ColumnView, pair_in, pair_at, is_present, number_4, text_at, utf8_at, buffers_in, is_text_place, is_long_enough, nulls_of, is_sound, is_day, text_fault, date_fault, row_fault, later, first_fault}
+use Rattle.arrow_read.specs.Columns.{ColumnView, pair_in, pair_at, is_present, number_4, text_at, utf8_at, buffers_in, is_long_enough, nulls_of, is_sound, is_day, text_fault, date_fault, row_fault, later, first_fault}
 use Rattle.arrow_read.specs.Reading.{◌>>=◌, or_fault, if_sound, if_values, column_in, columns_in}
 use Rattle.arrow_read.specs.ColumnFaults.{NodeSays, BuffersSay, CellFaulty, ColumnFaulty, ColumnsFaulty, ColumnFaultsAreFirst}
 use Rattle.arrow_read.specs.ColumnFaults.{bad_length, bad_buffer, bad_row}
 use Rattle.arrow_read.proofs.Chains.{fault_ok}
 use Rattle.arrow_read.proofs.Steps.{only_if}
-use Rattle.arrow_read.proofs.Below.{all_below_at, no_fault_at, no_fault_from, fault_at}
+use Rattle.arrow_read.proofs.Below.{no_fault_at, no_fault_from, fault_at}
 use Rattle.arrow_read.proofs.Texts.{is_utf8-false, is_utf8_text}
-use Rattle.arrow_read.proofs.BufferLaws.{in_pair, one_vector, buffer_read, buffer_made, present_is, is_present_of, integer_there, text_stands, text_read}
+use Rattle.arrow_read.proofs.BufferLaws.{in_pair, one_vector, buffer_read, buffer_made, present_is, is_present_of, integer_there, text_stands, text_read, text_place}
 use Rattle.arrow_read.proofs.ColumnLaws.{others, column_of, day_is, is_day_of}
 use Rattle.arrow_read.proofs.RowLaws.{batch_is}
 use Rattle.arrow_read.proofs.ColumnsHold.{TablesAre, sound_is, NodeIs, node_is, buffers_are, others_at, others_are, values_made, long_enough, is_long, sound_parts, same_number, parts_sound}
@@ -163,7 +163,7 @@ cell_faulty K.Long va vs ts place count row f l long h = let p = only_if (is_pre
 cell_faulty K.Text va vs ts place count row f l long h =
     let p = only_if (is_present va row) (text_fault place row (utf8_at vs ts row)) f h in
     let n = no_text place row (utf8_at vs ts row) f p.1 in
-    let text = some_text (text_at vs ts row) (all_below_at count (is_text_place vs ts) long row l) in
+    let text = some_text (text_at vs ts row) (text_place count row vs ts l long) in
     let s = text_stands vs ts row text.0 text.1 in
     (present_is va row p.0, (text.0, s.0, not_utf8_is text.0 (text_no_utf8 vs ts row text.0 text.1 n.0), n.1))
 cell_faulty K.Date va vs ts place count row f l long h =

@@ -10,7 +10,7 @@ use Rattle.cn_types.specs.declared.value.Value.TheVariants as V
 use Rattle.cn_types.specs.declared.value.DataType.{DataType}
 use Rattle.cn_types.specs.declared.value.DataType.TheVariants as K
 use Rattle.arrow_ipc.specs.Columns.{has_value}
-use Rattle.arrow_ipc.specs.Holds.{IsPresent, TextStands, CellStands, OffsetsRise, AreLongEnough}
+use Rattle.arrow_ipc.specs.Holds.{IsPresent, TextStands, CellStands, OffsetsStand, AreLongEnough}
 use Rattle.arrow_read.specs.declared.fault.ArrowFault.TheVariants.{BadDate}
 use Rattle.arrow_read.specs.Tables.{utf8}
 use Rattle.arrow_read.specs.Columns.{ColumnView, bit_in, is_present, number_4, text_at, utf8_at, text_value, value_in, cell, is_long_enough, is_day, text_fault, date_fault, row_fault}
@@ -128,7 +128,7 @@ reads_null place column row n =
     let absent : is_present column.validity row ≡ false = is_absent_of column.validity row n in
     record { cell_is = rw absent refl; has = sym absent; sound = rw absent refl }
 
-text_of_stands : (offsets texts : List ℕ) (count row : ℕ) (text : List ℕ) → row < count → OffsetsRise count offsets texts → TextStands offsets texts row text → IsUtf8 text → utf8_at offsets texts row ≡ Some text
+text_of_stands : (offsets texts : List ℕ) (count row : ℕ) (text : List ℕ) → row < count → OffsetsStand count offsets texts → TextStands offsets texts row text → IsUtf8 text → utf8_at offsets texts row ≡ Some text
 unfolding utf8_at
 text_of_stands offsets texts count row text l rise s u = rw (text_read offsets texts count row text l rise s) (is_utf8_text text u)
 

@@ -23,7 +23,7 @@ use Rattle.arrow_read.specs.Reading.{or_fault, if_sound, if_values, column_in}
 use Rattle.arrow_read.proofs.Chains.{bind_ok, fault_ok, same_int}
 use Rattle.arrow_read.proofs.Steps.{bind_some}
 use Rattle.arrow_read.proofs.Below.{no_fault_at, no_fault_from}
-use Rattle.arrow_read.proofs.BufferLaws.{pair_read, pair_made, buffer_read, buffer_made, offsets_rise, rising_offsets}
+use Rattle.arrow_read.proofs.BufferLaws.{pair_read, pair_made, buffer_read, buffer_made, offsets_stand, standing_offsets}
 use Rattle.arrow_read.proofs.ColumnLaws.{others, column_of, CellIs, cell_is, Reads, reads}
 
 -- ---- lists by place
@@ -146,7 +146,7 @@ unfolding is_long_enough
 long_enough K.Boolean va vs ts count h = leb-true count (8 * length vs) h
 long_enough K.Integer va vs ts count h = leb-true (4 * count) (length vs) h
 long_enough K.Long va vs ts count h = leb-true (8 * count) (length vs) h
-long_enough K.Text va vs ts count h = offsets_rise count vs ts h
+long_enough K.Text va vs ts count h = offsets_stand count vs ts h
 long_enough K.Date va vs ts count h = leb-true (4 * count) (length vs) h
 
 pub is_long : (kind : DataType) (validity values texts : List ℕ) (count : ℕ) → AreLongEnough kind count (others kind values texts) → is_long_enough count (column_of kind validity values texts) ≡ true
@@ -154,7 +154,7 @@ unfolding is_long_enough
 is_long K.Boolean va vs ts count h = le-leb count (8 * length vs) h
 is_long K.Integer va vs ts count h = le-leb (4 * count) (length vs) h
 is_long K.Long va vs ts count h = le-leb (8 * count) (length vs) h
-is_long K.Text va vs ts count h = rising_offsets count vs ts h
+is_long K.Text va vs ts count h = standing_offsets count vs ts h
 is_long K.Date va vs ts count h = le-leb (4 * count) (length vs) h
 
 -- the three parts of a sound column

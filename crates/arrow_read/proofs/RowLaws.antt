@@ -15,7 +15,8 @@ use Rattle.cn_types.specs.declared.schema.Schema.{Schema}
 use Rattle.flat_tables.specs.Views.{TableView}
 use Rattle.flat_tables.specs.Reading.{i64_field, vector_field}
 use Rattle.flat_tables.proofs.Places.{slice_get-map}
-use Rattle.arrow_ipc.specs.Columns.{value_at, cells}
+use Rattle.cn_types.specs.Fit.{value_at}
+use Rattle.arrow_ipc.specs.Columns.{cells}
 use Rattle.arrow_ipc.specs.Holds.{or_absent, buffer_count, ColumnHolds, ColumnsHold, BatchHolds}
 use Rattle.arrow_read.specs.declared.batch.BatchTables.{BatchTables}
 use Rattle.arrow_read.specs.Tables.{presence, not_negative, batch_in}

@@ -1,10 +1,11 @@
 -- What the buffers of a batch's columns hold (Arrow Columnar Format, "Physical Memory Layout"), one cell at a time, and which of them are
 -- sound.
-use Rattle.std.specs.Prelude.{ℕ, zero, suc, ◌+◌, ◌-◌, ◌*◌, ◌/◌, ◌%◌, ◌==◌, nat_le, nat_lt, ℤ, pos, negsuc, int_le, Bool, true, ◌||◌, ◌&&◌, if◌then◌else◌, List, [], length, take, drop, map, Option, None, Some, is_some, slice_index, unwrap_or}
+use Rattle.std.specs.Prelude.{ℕ, zero, suc, ◌+◌, ◌-◌, ◌*◌, ◌/◌, ◌%◌, ◌==◌, nat_le, nat_lt, ℤ, pos, int_le, Bool, true, ◌||◌, ◌&&◌, if◌then◌else◌, List, [], length, take, drop, map, Option, None, Some, is_some, slice_index, unwrap_or}
 use Rattle.std.specs.Result.{result_ok}
 use Rattle.std.specs.List.{range_with_len}
 use Rattle.std.specs.Ordering.{int_eq}
 use Rattle.std.specs.Int.{bit_at}
+use Rattle.cn_types.specs.Fit.{first_day, last_day}
 use Rattle.cn_types.specs.declared.value.Value.{Value}
 use Rattle.cn_types.specs.declared.value.Value.TheVariants as V
 use Rattle.cn_types.specs.declared.value.DataType.{DataType}
@@ -157,6 +158,18 @@ has_8s count numbers = nat_le (8 * count) (length numbers)
 abbrev pub is_text_place : List ℕ → List ℕ → ℕ → Bool
 is_text_place offsets texts row = is_some (text_at offsets texts row)
 
+-- the first offset, if it lies in the texts
+unfoldable pub first_offset : List ℕ → List ℕ → Option ℕ
+first_offset offsets texts = do
+  number ← number_4 offsets 0
+  from ← not_negative number
+  if nat_le from (length texts) then Some from else None
+
+-- no row and no offset, or a first offset and those of all rows
+unfoldable pub has_offsets : ℕ → List ℕ → List ℕ → Bool
+has_offsets count offsets texts =
+    (count == 0 && length offsets == 0) || (is_some (first_offset offsets texts) && all_below count (is_text_place offsets texts))
+
 -- the buffer behind the validity is long enough for so many rows
 unfoldable pub is_long_enough : ℕ → ColumnView → Bool
 is_long_enough count column = long column.kind
@@ -165,7 +178,7 @@ is_long_enough count column = long column.kind
     long K.Boolean = has_bits count column.values
     long K.Integer = has_4s count column.values
     long K.Long = has_8s count column.values
-    long K.Text = all_below count (is_text_place column.values column.texts)
+    long K.Text = has_offsets count column.values column.texts
     long K.Date = has_4s count column.values
 
 -- a number that a pair has
@@ -186,7 +199,7 @@ is_sound count nulls column =
 
 -- the day of a date, from 0001-01-01 to 9999-12-31
 abbrev pub is_day : ℤ → Bool
-is_day days = int_le (negsuc 719161) days && int_le days (pos 2932896)
+is_day days = int_le first_day days && int_le days last_day
 
 abbrev pub text_fault : ℕ → ℕ → Option (List ℕ) → Option ArrowFault
 text_fault place row (Some text) = None

@@ -1,12 +1,12 @@
 ghost use Rattle.std.specs.Prelude.{◌≡◌, ◌+◌, ◌-◌, ◌<◌, ◌^◌, IfOk, IfSome, option_map};
 ghost use Rattle.arrow_ipc.specs.Holds.{buffer_count as said_count};
-ghost use Rattle.arrow_read.specs.Columns.{has_bits as says_bits, has_4s as says_4s, has_8s as says_8s, is_long_enough as says_long, is_sound as says_sound, all_below, misses_below, is_present as says_present, is_text_place, nulls_of as said_nulls, buffers_in as said_buffers, row_fault as said_row_fault, text_fault as said_text_fault, date_fault as said_date_fault, first_fault as said_first_fault};
+ghost use Rattle.arrow_read.specs.Columns.{has_bits as says_bits, has_4s as says_4s, has_8s as says_8s, first_offset as said_first_offset, has_offsets as says_offsets, is_long_enough as says_long, is_sound as says_sound, all_below, misses_below, is_present as says_present, is_text_place, nulls_of as said_nulls, buffers_in as said_buffers, row_fault as said_row_fault, text_fault as said_text_fault, date_fault as said_date_fault, first_fault as said_first_fault};
 ghost use Rattle.arrow_read.specs.Reading.{column_in as said_column};
 
 use crate::ArrowFault;
 use crate::batch::BatchTables;
 use crate::cells::{is_present, text_at, utf8_at};
-use crate::numbers::{is_number, number_4};
+use crate::numbers::{is_number, not_negative, number_4};
 use crate::pair::{Pair, buffer_at, pair_at};
 use cn_types::DataType;
 use std::marker::Model;
@@ -68,6 +68,19 @@ fn has_8s(count: usize, numbers: &[u8]) -> bool
     count <= numbers.len() / 8
 }
 
+/// The first offset, if it lies in the texts.
+#[tactic(auto, unfolding(crate::specs::Columns::first_offset))]
+fn first_offset(offsets: &[u8], texts: &[u8]) -> Option<usize>
+    ensures { result ≡ said_first_offset offsets.now texts.now }
+{
+    let number = number_4(offsets, 0)?;
+    let from = not_negative(i64::from(number))?;
+    if texts.len() < from {
+        return None;
+    }
+    Some(from)
+}
+
 /// Whether the offsets of all rows rise and lie in the texts.
 fn has_texts(count: usize, offsets: &[u8], texts: &[u8]) -> bool
     ensures { result ≡ all_below count (is_text_place offsets.now texts.now) }
@@ -78,6 +91,20 @@ fn has_texts(count: usize, offsets: &[u8], texts: &[u8]) -> bool
         };
     }
     true
+}
+
+/// Whether there is an offset for each row and one more, which rise and lie in the texts, or none of no row.
+#[tactic(auto, unfolding(crate::specs::Columns::has_offsets))]
+fn has_offsets(count: usize, offsets: &[u8], texts: &[u8]) -> bool
+    ensures { result ≡ says_offsets count offsets.now texts.now }
+{
+    if count == 0 && offsets.is_empty() {
+        return true;
+    }
+    if first_offset(offsets, texts).is_none() {
+        return false;
+    }
+    has_texts(count, offsets, texts)
 }
 
 /// How many rows are null.
@@ -103,7 +130,7 @@ impl<'a> Column<'a> {
             DataType::Boolean => has_bits(count, self.values),
             DataType::Integer => has_4s(count, self.values),
             DataType::Long => has_8s(count, self.values),
-            DataType::Text => has_texts(count, self.values, self.texts),
+            DataType::Text => has_offsets(count, self.values, self.texts),
             DataType::Date => has_4s(count, self.values),
         }
     }
