@@ -11,3 +11,4 @@ pub mod SpellPieces
 pub mod PieceLemmas
 pub mod WriterLemmas
 pub mod SizeLemmas
+pub mod TextReadings

@@ -10,10 +10,13 @@ use Rattle.proto_wire.specs.Records.{Records}
 use Rattle.proto_wire.specs.Faults.{WireFaulty}
 use Rattle.proto_fields.specs.declared.fault.MessageFault.{MessageFault}
 use Rattle.proto_fields.specs.declared.kind.MessageKind.{MessageKind}
+use Rattle.proto_fields.specs.declared.kind.PayloadKind.TheVariants.{Text}
+use Rattle.proto_fields.specs.Kinds.{payload_of}
 use Rattle.proto_fields.specs.Fields.{Field, field_in, fields_of, IsMessage}
-use Rattle.proto_fields.specs.Readings.{int32_of, int64_of, bool_of, last_number, last_payload, payloads, int32_field, int64_field, bool_field, optional_int32, optional_int64, optional_bool, text_field, optional_text, merged}
+use Rattle.proto_fields.specs.Readings.{int32_of, int64_of, bool_of, last_number, last_payload, payloads, int32_field, int64_field, bool_field, optional_int32, optional_int64, optional_bool, text_field, optional_text, texts, merged}
 use Rattle.proto_fields.specs.Spelling.{spell, IsWritable, bits_of, bit_of, int_fields, optional_int_fields, bool_fields, optional_bool_fields, text_fields, payload_fields, optional_payload_fields}
 use Rattle.proto_fields.specs.Faults.{IsSound, IsSoundField, HasFault, first_fault}
+use Rattle.proto_fields.specs.Texts.{KeepsText, KeepsOptionalText, KeepsTexts}
 
 -- the fields of bytes are those of their records
 abbrev pub FieldsOfRecords : Type 0
@@ -95,3 +98,19 @@ pub record WrittenIsRead : Type 0 where
   pub optional_text : (number : ℕ) (text : Option (List ℕ)) → IfSome text IsUtf8 → optional_text number (optional_payload_fields number text) ≡ text
   pub optional_bytes : (number : ℕ) (bytes : Option (List ℕ)) → last_payload number (optional_payload_fields number bytes) ≡ bytes
   pub message : (number : ℕ) (fields : List Field) → AllByRecursion IsWritable fields → merged number (payload_fields number (spell fields)) ≡ Some fields
+
+-- where a payload is a text in the fault table, a sound message's text is read as it stands
+pub record TextsAreKept : Type 0 where
+  pub text : (kind : MessageKind) (number : ℕ) → payload_of kind number ≡ Text → KeepsText kind number (text_field number)
+  pub optional_text : (kind : MessageKind) (number : ℕ) → payload_of kind number ≡ Text → KeepsOptionalText kind number (optional_text number)
+  pub texts : (kind : MessageKind) (number : ℕ) → payload_of kind number ≡ Text → KeepsTexts kind number (texts number)
+
+-- whatever fields are read, a number has the bits of its type and a text is UTF-8
+pub record ReadingsAreValid : Type 0 where
+  pub int32 : (number : ℕ) (fields : List Field) → FitsSigned w32 (int32_field number fields)
+  pub int64 : (number : ℕ) (fields : List Field) → FitsSigned w64 (int64_field number fields)
+  pub optional_int32 : (number : ℕ) (fields : List Field) → IfSome (optional_int32 number fields) (FitsSigned w32)
+  pub optional_int64 : (number : ℕ) (fields : List Field) → IfSome (optional_int64 number fields) (FitsSigned w64)
+  pub text : (number : ℕ) (fields : List Field) → IsUtf8 (text_field number fields)
+  pub optional_text : (number : ℕ) (fields : List Field) → IfSome (optional_text number fields) IsUtf8
+  pub texts : (number : ℕ) (fields : List Field) → AllByRecursion IsUtf8 (texts number fields)

@@ -4,6 +4,7 @@ pub mod Views
 pub mod Kinds
 pub mod Faults
 pub mod Readings
+pub mod Texts
 pub mod Laws
 pub mod Spelling
 pub mod Sizes

@@ -52,10 +52,6 @@ int32_of value = cast_signed w32 (value % 2 ^ 32)
 abbrev pub int64_of : ℕ → ℤ
 int64_of value = cast_signed w64 value
 
--- a uint32 is the low 32 bits
-abbrev pub uint32_of : ℕ → ℕ
-uint32_of value = value % 2 ^ 32
-
 -- a bool is true where any bit is set
 abbrev pub bool_of : ℕ → Bool
 bool_of value = not (value == 0)
@@ -67,9 +63,6 @@ optional_int32 number fields = option_map int32_of (last_number number fields)
 abbrev pub optional_int64 : ℕ → List Field → Option ℤ
 optional_int64 number fields = option_map int64_of (last_number number fields)
 
-abbrev pub optional_uint32 : ℕ → List Field → Option ℕ
-optional_uint32 number fields = option_map uint32_of (last_number number fields)
-
 abbrev pub optional_bool : ℕ → List Field → Option Bool
 optional_bool number fields = option_map bool_of (last_number number fields)
 
@@ -79,9 +72,6 @@ int32_field number fields = unwrap_or (optional_int32 number fields) (pos 0)
 
 abbrev pub int64_field : ℕ → List Field → ℤ
 int64_field number fields = unwrap_or (optional_int64 number fields) (pos 0)
-
-abbrev pub uint32_field : ℕ → List Field → ℕ
-uint32_field number fields = unwrap_or (optional_uint32 number fields) 0
 
 abbrev pub bool_field : ℕ → List Field → Bool
 bool_field number fields = unwrap_or (optional_bool number fields) false

@@ -1,6 +1,6 @@
 //! Laws over the definitions of fields, soundness, faults, readings and spellings, each the contract of a function that does nothing.
 
-ghost use Rattle.proto_fields.specs.Laws.{FieldsOfRecords, FaultyHaveNoFields, FieldsJoin, SoundByFields, SoundHaveNoFault, FirstFaultIsFault, SoundOrFaulty, FaultIsOne, SoundIsNotFaulty, SpelledIsRead, SpelledIsSound, ScalarsReturn, ReadingsJoin, OthersAreSkipped, WrittenIsRead};
+ghost use Rattle.proto_fields.specs.Laws.{FieldsOfRecords, FaultyHaveNoFields, FieldsJoin, SoundByFields, SoundHaveNoFault, FirstFaultIsFault, SoundOrFaulty, FaultIsOne, SoundIsNotFaulty, SpelledIsRead, SpelledIsSound, ScalarsReturn, ReadingsJoin, OthersAreSkipped, WrittenIsRead, TextsAreKept, ReadingsAreValid};
 
 /// The fields of bytes are those of their records.
 pub fn fields_of_records()
@@ -75,4 +75,14 @@ pub fn others_are_skipped()
 /// What a value is written as is read as the value.
 pub fn written_is_read()
     ensures { WrittenIsRead }
+{}
+
+/// Where a payload is a text in the table of `find_fault`, the text of a sound message is read as it stands.
+pub fn texts_are_kept()
+    ensures { TextsAreKept }
+{}
+
+/// Whatever fields are read, a number has the bits of its type and a text is UTF-8.
+pub fn readings_are_valid()
+    ensures { ReadingsAreValid }
 {}

@@ -59,16 +59,6 @@ pub fn optional_int64(records: &[Record], number: u32) -> Option<i64>
     }
 }
 
-/// An optional uint32: the low 32 bits of the last varint.
-pub fn optional_uint32(records: &[Record], number: u32) -> Option<u32>
-    ensures { result ≡ read.optional_uint32 number (seen records.now) }
-{
-    match last_number(records, number) {
-        Some(value) => Some((value % (1 << 32)) as u32),
-        None => None,
-    }
-}
-
 /// An optional bool, which is true where any bit of the last varint is set.
 pub fn optional_bool(records: &[Record], number: u32) -> Option<bool>
     ensures { result ≡ read.optional_bool number (seen records.now) }
@@ -91,13 +81,6 @@ pub fn int64_field(records: &[Record], number: u32) -> i64
     ensures { result ≡ read.int64_field number (seen records.now) }
 {
     optional_int64(records, number).unwrap_or(0)
-}
-
-/// A uint32, 0 where no record has it.
-pub fn uint32_field(records: &[Record], number: u32) -> u32
-    ensures { result ≡ read.uint32_field number (seen records.now) }
-{
-    optional_uint32(records, number).unwrap_or(0)
 }
 
 /// A bool, false where no record has it.
