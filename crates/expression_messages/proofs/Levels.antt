@@ -10,7 +10,7 @@ use Rattle.expression_messages.specs.declared.data_type.TypeMessage.TheVariants.
 use Rattle.expression_messages.specs.declared.expression.Expr.{Expr}
 use Rattle.expression_messages.specs.declared.expression.Expr.TheVariants as expr
 use Rattle.expression_messages.specs.Messages.{message_at}
-use Rattle.expression_messages.specs.Types.{struct_fields_of, plain_type, type_member, type_of, type_at}
+use Rattle.expression_messages.specs.Types.{struct_fields_of, plain_type, type_member, data_type_of, type_at}
 use Rattle.expression_messages.specs.Expressions.{expr_member, expr_of, expr_at}
 
 -- ---- a choice by a number
@@ -23,13 +23,13 @@ at_other a b x y other = rw (ne_eqb a b other) refl
 
 -- ---- types
 
-pub type_at-level : (level : ℕ) (fields : List Field) → 0 < level → type_at level fields ≡ type_of (type_at (level - 3)) fields
+pub type_at-level : (level : ℕ) (fields : List Field) → 0 < level → type_at level fields ≡ data_type_of (type_at (level - 3)) fields
 unfolding type_at
 type_at-level zero fields some = absurd (omega arith)
 type_at-level (suc zero) fields some = refl
 type_at-level (suc (suc zero)) fields some = refl
 type_at-level (suc (suc (suc level))) fields some =
-    let left : level ≡ suc (suc (suc level)) - 3 = omega arith in ap (λ (n : ℕ). type_of (type_at n) fields) left
+    let left : level ≡ suc (suc (suc level)) - 3 = omega arith in ap (λ (n : ℕ). data_type_of (type_at n) fields) left
 
 pub type_at-zero : (level : ℕ) (fields : List Field) → level ≡ 0 → type_at level fields ≡ Other 0
 unfolding type_at

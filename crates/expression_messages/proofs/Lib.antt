@@ -10,3 +10,6 @@ pub mod ExprBack
 pub mod Agreement
 pub mod SameTypes
 pub mod SameExprs
+pub mod Valid
+pub mod TextsKept
+pub mod Encoded

@@ -13,7 +13,7 @@ use Rattle.expression_messages.specs.declared.data_type.StructField.{StructField
 use Rattle.expression_messages.specs.declared.data_type.TypeMessage.{TypeMessage}
 use Rattle.expression_messages.specs.declared.data_type.TypeMessage.TheVariants.{Struct, Other}
 use Rattle.expression_messages.specs.Messages.{message_at}
-use Rattle.expression_messages.specs.Types.{struct_field_of, struct_fields_of, type_of, type_at}
+use Rattle.expression_messages.specs.Types.{struct_field_of, struct_fields_of, data_type_of, type_at}
 use Rattle.expression_messages.proofs.Levels.{type_at-None, type_at-plain, type_at-struct, type_at-level, type_at-zero}
 use Rattle.expression_messages.proofs.Agreement.{AreSound, sound_some, fields_sound, fields_in, joined_sound, message_at-joined, payloads_sound, message_sound, since_sound}
 

@@ -21,7 +21,7 @@ use Rattle.expression_messages.specs.declared.data_type.TypeMessage.TheOpen.{Typ
 use Rattle.expression_messages.specs.declared.data_type.TypeMessage.TheViews.{out-TypeMessage, roll-TypeMessage, roll-out-TypeMessage, outs-Struct}
 use Rattle.expression_messages.specs.declared.data_type.TypeMessage.TheFolds.{every_here-TypeMessage, every_held-TypeMessage, every-TypeMessage, map-TypeMessage}
 use Rattle.expression_messages.specs.Messages.{message_at}
-use Rattle.expression_messages.specs.Types.{struct_field_of, struct_fields_of, plain_type, type_of, type_at}
+use Rattle.expression_messages.specs.Types.{struct_field_of, struct_fields_of, plain_type, data_type_of, type_at}
 use Rattle.expression_messages.specs.Spelled.{struct_field_fields, struct_type_fields, type_fields}
 use Rattle.expression_messages.specs.Depths.{largest, deepest_field, type_depth}
 use Rattle.expression_messages.specs.Known.{is_known_type, IsKnownType, HasTypeBitsHere, HasTypeBits}

@@ -36,12 +36,12 @@ type_member inner member =
     if member.number == 21 then Struct (struct_fields_of inner (message_at 21 member.since)) else plain_type member.number
 
 -- a type, where the types in it are read so; an absent type is Other 0
-abbrev pub type_of : (List Field → TypeMessage) → List Field → TypeMessage
-type_of inner fields = unwrap_or (option_map (type_member inner) (latest kinds.DataType fields)) (Other 0)
+abbrev pub data_type_of : (List Field → TypeMessage) → List Field → TypeMessage
+data_type_of inner fields = unwrap_or (option_map (type_member inner) (latest kinds.DataType fields)) (Other 0)
 
 -- a type in another is three levels further in: the struct's message and the field's stand between. Where no level is left, it is Other 0
 unfoldable pub type_at : ℕ → List Field → TypeMessage
 type_at zero fields = Other 0
-type_at (suc zero) fields = type_of (type_at zero) fields
-type_at (suc (suc zero)) fields = type_of (type_at zero) fields
-type_at (suc (suc (suc level))) fields = type_of (type_at level) fields
+type_at (suc zero) fields = data_type_of (type_at zero) fields
+type_at (suc (suc zero)) fields = data_type_of (type_at zero) fields
+type_at (suc (suc (suc level))) fields = data_type_of (type_at level) fields

@@ -3,6 +3,7 @@ ghost use Rattle.proto_fields.specs.declared.fault.MessageFault.{MessageFault};
 ghost use Rattle.proto_fields.specs.declared.kind.MessageKind.{MessageKind};
 ghost use Rattle.proto_fields.specs.Faults.{IsSound, IsCause, HasFault, Gives};
 ghost use Rattle.proto_fields.specs.Fields.{fields_of};
+ghost use Rattle.expression_messages.specs.Known.{HasTypeBits};
 ghost use Rattle.expression_messages.specs.Types.{type_at};
 
 use crate::TypeMessage;
@@ -20,6 +21,9 @@ const MOST_LEVELS: u32 = 200;
 pub fn decode_type(alloc: Global, bytes: &[u8]) -> Result<TypeMessage, MessageFault>
     ensures sound { IfOk result (λ kind. IsSound 200 MessageKind.DataType bytes.now) }
     ensures fault { IfErr result (IsCause 200 MessageKind.DataType bytes.now) }
+
+    // What is read has UTF-8 texts, so that it can be written again.
+    ensures valid { IfOk result HasTypeBits }
 
     // A sound message is read, and a fault is the answer.
     ensures read { IsSound 200 MessageKind.DataType bytes.now

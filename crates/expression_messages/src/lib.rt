@@ -35,8 +35,8 @@ pub use expression_sizes::{alias_size, expr_size, exprs_size, sort_order_size};
 pub use expression_writing::{put_alias, put_expr, put_exprs, put_sort_order};
 pub use known::{are_known, is_known_expr, is_known_type};
 pub use laws::{
-    aliases_are_read_back, exprs_are_read_back, levels_agree, sort_orders_are_read_back,
-    types_are_read_back,
+    aliases_are_read_back, expr_texts_are_kept, exprs_are_read_back, exprs_are_valid, levels_agree,
+    sort_orders_are_read_back, types_are_read_back,
 };
 pub use literal::Literal;
 pub use message::{message_records, put_message_head};

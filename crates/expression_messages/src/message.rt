@@ -1,4 +1,4 @@
-ghost use Rattle.std.specs.Prelude.{◌≡◌, ◌≤◌, ℕ, List, ◌++◌, length, IfOk, OnOk};
+ghost use Rattle.std.specs.Prelude.{◌≡◌, ◌≤◌, ℕ, List, ◌++◌, length, IfOk, OnOk, OnErr};
 ghost use Rattle.proto_fields.specs.Spelling.{spell, payload_fields};
 ghost use Rattle.proto_fields.specs.Views.{seen};
 ghost use Rattle.expression_messages.specs.Messages.{message_at};
@@ -22,14 +22,15 @@ pub fn message_records<'a>(
 }
 
 /// Puts the tag and the length of the message that was written since `end` bytes stood: it becomes a payload of this number.
-/// Where memory runs out, nothing is promised of what stands then.
+/// Where memory runs out, nothing changes.
 #[tactic(auto, using(crate::proofs::Written::headed))]
 pub fn put_message_head(out: &mut MessageWriter, number: u32, end: usize) -> Result<(), OutOfMemory>
     requires low { 1 ≤ number }
     requires high { number ≤ 536870911 }
     requires within { end ≤ length out.old }
-    ensures { (message after : List ℕ) → out.old ≡ message ++ after → length after ≡ end
+    ensures ok { (message after : List ℕ) → out.old ≡ message ++ after → length after ≡ end
         → OnOk result (out.new ≡ spell (payload_fields number message) ++ after) }
+    ensures err { OnErr result (out.new ≡ out.old) }
 {
     let length = out.len() - end;
     out.put_head(number, length)

@@ -18,7 +18,7 @@ pub put_exprs-loop-index-preserved : goal.put_exprs-loop-index-preserved
 put_exprs-loop-index-preserved t c =
     let expr = c.index-exprs-index.result in
     let left = messages_fields expr_fields c.args.number (take (c.loop-index.index - 1) c.args.exprs.now) in
-    let head = c.in_ok-put_message_head.ensures (spell (expr_fields expr)) c.loop-index.out c.in_ok-put_expr.ensures (sym c.len-end.ensures) in
+    let head = c.in_ok-put_message_head.ensures.ok (spell (expr_fields expr)) c.loop-index.out c.in_ok-put_expr.ensures (sym c.len-end.ensures) in
     ap (λ (bytes : List ℕ). spell left ++ bytes) head
     ∙ messages_more expr_fields c.args.number c.args.exprs.now c.loop-index.index expr c.loop-index.out (omega arith) (omega arith) c.index-exprs-index.is
     ∙ c.loop-index.invariant
@@ -32,7 +32,7 @@ put_alias-returns t c =
     c.in_ok-put_expr.ensures ∙ ap (λ e. spell (expr_fields e) ++ c.put_texts.new.out) c.get.ensures in
     on_ok_weaker c.put_message_head.result
     (stand_two (payload_fields 1 (spell inner)) (repeated_fields 2 alias.name) c.args.out.now c.put_texts.new.out c.put_message_head.new.out names)
-    (c.put_message_head.ensures (spell inner) c.put_texts.new.out stands (sym c.len-end.ensures))
+    (c.put_message_head.ensures.ok (spell inner) c.put_texts.new.out stands (sym c.len-end.ensures))
 
 pub put_cast-returns : goal.put_cast-returns
 put_cast-returns t c =
@@ -42,7 +42,7 @@ put_cast-returns t c =
     c.in_ok-put_expr.ensures ∙ ap (λ e. spell (expr_fields e) ++ c.put_target.new.out) c.get.ensures in
     on_ok_weaker c.put_message_head.result
     (stand_two (payload_fields 1 (spell inner)) (target_fields cast.target) c.args.out.now c.put_target.new.out c.put_message_head.new.out c.in_ok-put_target.ensures)
-    (c.put_message_head.ensures (spell inner) c.put_target.new.out stands (sym c.len-end.ensures))
+    (c.put_message_head.ensures.ok (spell inner) c.put_target.new.out stands (sym c.len-end.ensures))
 
 pub put_sort_order-returns : goal.put_sort_order-returns
 put_sort_order-returns t c =
@@ -56,7 +56,7 @@ put_sort_order-returns t c =
     c.in_ok-put_expr.ensures ∙ ap (λ e. spell (expr_fields e) ++ c.put_int32-2.new.self) c.get.ensures in
     on_ok_weaker c.put_message_head.result
     (stand_three (payload_fields 1 (spell inner)) (int_fields 2 order.direction) (int_fields 3 order.null_ordering) c.args.out.now c.put_int32.new.self c.put_int32-2.new.self c.put_message_head.new.out nulls direction)
-    (c.put_message_head.ensures (spell inner) c.put_int32-2.new.self stands (sym c.len-end.ensures))
+    (c.put_message_head.ensures.ok (spell inner) c.put_int32-2.new.self stands (sym c.len-end.ensures))
 
 pub put_expr-returns-in_ok-put_text-in-UnresolvedFunction : goal.put_expr-returns-in_ok-put_text-in-UnresolvedFunction
 put_expr-returns-in_ok-put_text-in-UnresolvedFunction t c =
@@ -72,4 +72,4 @@ put_expr-returns-in_ok-put_text-in-UnresolvedFunction t c =
     let whole : c.put_text.new.self ≡ spell (function_fields expr_fields function) ++ out =
     stand_three name arguments distinct out c.put_bool.new.self c.put_exprs.new.out c.put_text.new.self c.in_ok-put_bool-in-UnresolvedFunction.ensures.ok exprs text in
     rw (c.in-UnresolvedFunction.is, expr_fields-UnresolvedFunction)
-    (c.put_message_head-in-UnresolvedFunction.ensures (spell (function_fields expr_fields function)) out whole (sym c.len-end.ensures))
+    (c.put_message_head-in-UnresolvedFunction.ensures.ok (spell (function_fields expr_fields function)) out whole (sym c.len-end.ensures))

@@ -17,12 +17,12 @@ put_struct_fields-loop-index-preserved t c =
     let name = text_fields 1 field.name in
     let nullable = bool_fields 3 field.nullable in
     let head : c.put_message_head.new.out ≡ spell (payload_fields 2 (spell kind)) ++ c.put_bool.new.self =
-    c.in_ok-put_message_head.ensures (spell kind) c.put_bool.new.self c.in_ok-put_type.ensures (sym c.len-type_end.ensures) in
+    c.in_ok-put_message_head.ensures.ok (spell kind) c.put_bool.new.self c.in_ok-put_type.ensures (sym c.len-type_end.ensures) in
     let text : c.put_text.new.self ≡ spell name ++ c.put_message_head.new.out =
     c.in_ok-put_text.ensures.ok ∙ ap (λ (n : List ℕ). spell (text_fields 1 n) ++ c.put_message_head.new.out) c.as_str.ensures in
     let whole : c.put_text.new.self ≡ spell (struct_field_fields type_fields field) ++ out =
     stand_three name (payload_fields 2 (spell kind)) nullable out c.put_bool.new.self c.put_message_head.new.out c.put_text.new.self c.in_ok-put_bool.ensures.ok head text in
-    let last = c.in_ok-put_message_head-2.ensures (spell (struct_field_fields type_fields field)) out whole (sym c.len-end.ensures) in
+    let last = c.in_ok-put_message_head-2.ensures.ok (spell (struct_field_fields type_fields field)) out whole (sym c.len-end.ensures) in
     ap (λ (bytes : List ℕ). spell (struct_type_fields type_fields (take (c.loop-index.index - 1) c.args.fields.now)) ++ bytes) last
     ∙ messages_more (struct_field_fields type_fields) 1 c.args.fields.now c.loop-index.index field out (omega arith) (omega arith) c.index-fields-index.is
     ∙ c.loop-index.invariant
