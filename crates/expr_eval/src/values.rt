@@ -1,12 +1,12 @@
 ghost use Rattle.std.specs.Prelude.{◌≡◌, IfOk, All, map};
-ghost use Rattle.cn_types.specs.Fit.{HasDateInRange};
+ghost use Rattle.cn_types.specs.Fit.{HasDateInRange, value_at};
 ghost use Rattle.plan_model.specs.Casts.{cast_to};
 ghost use Rattle.plan_model.specs.Conditionals.{coalesce, when, widened};
 ghost use Rattle.plan_model.specs.Comparisons.{member_of};
 ghost use Rattle.plan_model.specs.Functions.{call, of_one, of_two, of_first};
 ghost use Rattle.plan_model.specs.Texts.{concat};
 ghost use Rattle.plan_model.specs.Truth.{is_true};
-ghost use Rattle.plan_model.specs.Val.{val, value_at};
+ghost use Rattle.plan_model.specs.Val.{val};
 ghost use Rattle.expr_eval.specs.Dated.{HasLiteralsInRange, HasDatesInRange};
 ghost use Rattle.expr_eval.specs.Operands.{operand_value, vals};
 ghost use Rattle.expr_eval.specs.Operations.{unary_of, binary_of};
@@ -72,7 +72,7 @@ pub fn holds(alloc: Global, condition: &TypedExpr, row: &Row) -> Result<bool, Ou
 /// The row's value at a place; null past its end.
 fn column(row: &Row, place: u32) -> Operand<'_>
     requires { HasDatesInRange row.now }
-    ensures value { operand_value result ≡ value_at row.now place }
+    ensures value { operand_value result ≡ value_at place row.now }
     ensures dated { HasDateInRange (operand_value result) }
 {
     match row.0.get(place as usize) {
