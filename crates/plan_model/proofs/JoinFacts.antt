@@ -15,10 +15,10 @@ use Rattle.plan_model.proofs.Multisets.{copies-here, count_of_rest, copies-cons}
 use Rattle.plan_model.proofs.RowCounts.{row_exact, count-filter, count-append}
 
 -- the row stands in the list
-abbrev In : List Row → Row → Type 0
+abbrev pub In : List Row → Row → Type 0
 In rows row = 0 < count rows row
 
-in_first : (row : Row) (rows : List Row) → In (row ∷ rows) row
+pub in_first : (row : Row) (rows : List Row) → In (row ∷ rows) row
 in_first row rows = omega (arith, copies-here row_eq row_exact row rows)
 
 in_later : (first : Row) (rows : List Row) (row : Row) → In rows row → In (first ∷ rows) row
@@ -103,20 +103,20 @@ none_from : (p : Row → Bool) (rows : List Row) → ((row : Row) → In rows ro
 none_from p [] h = refl
 none_from p (x ∷ rows) h = or_from (p x) (list_any p rows) (h x (in_first x rows)) (none_from p rows (λ row r. h row (in_later x rows row r)))
 
-abbrev Passing : (Row → Bool) → List Row → Type 0
+abbrev pub Passing : (Row → Bool) → List Row → Type 0
 Passing p rows = (row : Row) × In rows row × (p row ≡ true)
 
 passing_later : (p : Row → Bool) (first : Row) (rows : List Row) → Passing p rows → Passing p (first ∷ rows)
 passing_later p first rows h = (h.0, in_later first rows h.0 h.1, h.2)
 
-some_of : (p : Row → Bool) (rows : List Row) → list_any p rows ≡ true → Passing p rows
+pub some_of : (p : Row → Bool) (rows : List Row) → list_any p rows ≡ true → Passing p rows
 some_of p [] h = absurd (false≢true h)
 some_of p (x ∷ rows) h = elim (or_cases (p x) (list_any p rows) h) [
   | inl here ↦ (x, in_first x rows, here)
   | inr later ↦ passing_later p x rows (some_of p rows later)
 ]
 
-some_from : (p : Row → Bool) (rows : List Row) (row : Row) → In rows row → p row ≡ true → list_any p rows ≡ true
+pub some_from : (p : Row → Bool) (rows : List Row) (row : Row) → In rows row → p row ≡ true → list_any p rows ≡ true
 some_from p rows row h e = true_from_ne_false (list_any p rows) (λ f. false≢true (sym (none_of p rows f row h) ∙ e))
 
 module _ (joining : Joining) (a b : List Row) where
@@ -228,25 +228,25 @@ rows_of_join kind joining a b rows h row =
 same_row : (x y : Row) → x.0 ≡ y.0 → x ≡ y
 same_row x y e = ap (λ (values : List Value). let row : Row = record { 0 = values } in row) e
 
-same_left : (x y l r : Row) → length x.0 ≡ length l.0 → beside l r ≡ beside x y → l ≡ x
+pub same_left : (x y l r : Row) → length x.0 ≡ length l.0 → beside l r ≡ beside x y → l ≡ x
 same_left x y l r w e =
     same_row l x (sym (take_at l.0 r.0 (length l.0) refl) ∙ ap (take (length l.0)) (ap (λ (row : Row). row.0) e) ∙ take_at x.0 y.0 (length l.0) w)
 
-same_right : (l r y : Row) → beside l r ≡ beside l y → r ≡ y
+pub same_right : (l r y : Row) → beside l r ≡ beside l y → r ≡ y
 same_right l r y e = same_row r y (append_cancel_left l.0 r.0 y.0 (ap (λ (row : Row). row.0) e))
 
 -- two tests of rows that mean the same
-row_eq-same : (x y u v : Row) → (x ≡ y → u ≡ v) → (u ≡ v → x ≡ y) → row_eq x y ≡ row_eq u v
+pub row_eq-same : (x y u v : Row) → (x ≡ y → u ≡ v) → (u ≡ v → x ≡ y) → row_eq x y ≡ row_eq u v
 row_eq-same x y u v f g = both_ways (row_eq x y) (row_eq u v) (λ e. (row_exact u v).1 (f ((row_exact x y).0 e))) (λ e. (row_exact x y).1 (g ((row_exact u v).0 e)))
 
-count-beside : (l r : Row) (rows : List Row) → count (map (beside l) rows) (beside l r) ≡ count rows r
+pub count-beside : (l r : Row) (rows : List Row) → count (map (beside l) rows) (beside l r) ≡ count rows r
 count-beside l r [] = refl
 count-beside l r (y ∷ rows) =
     count_of_rest row_eq row_exact (beside l y) (map (beside l) rows) (beside l r) (row_eq r y) (row_eq-same (beside l r) (beside l y) r y (same_right l r y) (ap (beside l)))
     ∙ ap (λ n. cond (row_eq r y) 1 0 + n) (count-beside l r rows)
     ∙ sym (copies-cons row_eq row_exact y rows r)
 
-count-other : (x l r : Row) (rows : List Row) → length x.0 ≡ length l.0 → row_eq l x ≡ false → count (map (beside x) rows) (beside l r) ≡ 0
+pub count-other : (x l r : Row) (rows : List Row) → length x.0 ≡ length l.0 → row_eq l x ≡ false → count (map (beside x) rows) (beside l r) ≡ 0
 count-other x l r [] w e = refl
 count-other x l r (y ∷ rows) w e =
     count_of_rest row_eq row_exact (beside x y) (map (beside x) rows) (beside l r) false (false_from_ne_true (row_eq (beside l r) (beside x y)) (λ t.

@@ -10,8 +10,10 @@ pub mod Determined
 pub mod ExpressionFacts
 pub mod Fitting
 pub mod FunctionFacts
+pub mod JoinCountFacts
 pub mod JoinFacts
 pub mod KindFacts
+pub mod LimitFacts
 pub mod Multisets
 pub mod NodeFacts
 pub mod NullFacts
@@ -20,6 +22,7 @@ pub mod Parts
 pub mod RangeFacts
 pub mod RelationFacts
 pub mod RowCounts
+pub mod SelectionFacts
 pub mod Sorted
 pub mod TypedValues
 pub mod TypesFacts

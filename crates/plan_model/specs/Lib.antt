@@ -15,14 +15,17 @@ pub mod FunctionLaws
 pub mod FunctionTypes
 pub mod Functions
 pub mod Groups
+pub mod JoinCounts
 pub mod Joins
 pub mod KindLaws
+pub mod LimitLaws
 pub mod LogicLaws
 pub mod NodeTypes
 pub mod OutcomeLaws
 pub mod Outcomes
 pub mod Ranges
 pub mod RelationLaws
+pub mod SelectionLaws
 pub mod Selections
 pub mod SetOperations
 pub mod Sorting

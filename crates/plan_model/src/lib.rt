@@ -29,8 +29,10 @@ pub use node::{AggregateCall, JoinKind, Node, SetKind, SortKey};
 pub use outcome::Outcome;
 pub use plan::{Resolved, Save};
 pub use plan_laws::{
-    determined_outcomes_are_alike, distinct_rows_are_a_set, joins_hold_their_rows, joins_match,
-    one_row_without_keys, permutations_have_the_same_counts, plans_have_outcomes,
-    relations_follow_their_kind, rows_are_within_limits, rows_fit, set_operations_count,
-    sorted_rows_stay, sorts_without_ties_are_unique, worked_plans_hold,
+    determined_outcomes_are_alike, distinct_rows_are_a_set, first_errors_are_of_the_left,
+    joins_count_their_rows, joins_go_by_conditions, joins_hold_their_rows, joins_match,
+    one_row_without_keys, permutations_have_the_same_counts, plans_are_limited,
+    plans_have_outcomes, relations_follow_their_kind, rows_are_limited, rows_are_within_limits,
+    rows_fit, selections_keep_places, set_operations_count, set_operations_hold_their_rows,
+    sorted_rows_stay, sorts_go_by_the_first_key, sorts_without_ties_are_unique, worked_plans_hold,
 };

@@ -1,6 +1,9 @@
+ghost use Rattle.plan_model.specs.JoinCounts.{JoinsGoByConditions, JoinsCountTheirRows};
 ghost use Rattle.plan_model.specs.KindLaws.{OutcomesOfKinds, TypesOfKinds, ConditionsOfKinds, ConditionsOfForms};
+ghost use Rattle.plan_model.specs.LimitLaws.{RowsAreLimited, PlansAreLimited, FirstErrorsAreOfTheLeft};
 ghost use Rattle.plan_model.specs.OutcomeLaws.{ChosenIsAllowed, EveryPlanHasAnOutcome, RowsHaveTheTypes, RowsFitTheSchema, RowsAreWithinLimits, DeterminedOutcomesAreAlike};
 ghost use Rattle.plan_model.specs.RelationLaws.{PermutationsHaveTheSameCounts, JoinsMatch, JoinsHoldTheirRows, SetOperationsCount, OneRowWithoutKeys, DistinctRowsAreASet, SortedRowsStay, SortsWithoutTiesAreUnique};
+ghost use Rattle.plan_model.specs.SelectionLaws.{SelectionsKeepPlaces, SetOperationsHoldTheirRows, SortsGoByTheFirstKey};
 ghost use Rattle.plan_model.specs.WorkedPlans.{WorkedPlans};
 
 /// Law: the outcomes and the types of each kind of relation, and whether it is well formed, by those of its inputs; and whether each form
@@ -75,6 +78,47 @@ pub fn sorted_rows_stay()
 /// Law: where no two rows tie, a sort has one list.
 pub fn sorts_without_ties_are_unique()
     ensures { SortsWithoutTiesAreUnique }
+{}
+
+/// Law: two rows match exactly where the condition is true of both side by side, and a cross join with a condition is an inner one.
+pub fn joins_go_by_conditions()
+    ensures { JoinsGoByConditions }
+{}
+
+/// Law: how often two rows side by side stand in a join, as a pair and as a row without a match beside nulls, for each kind of join.
+pub fn joins_count_their_rows()
+    ensures { JoinsCountTheirRows }
+{}
+
+/// Law: rows are an outcome exactly where they are at most 4,194,304 and none weighs more than 8,388,608 bytes; too many rows are an error
+/// before a row that is too large is.
+pub fn rows_are_limited()
+    ensures { RowsAreLimited }
+{}
+
+/// Law: a plan's outcome is its rows under its schema, or an error of its relation with the limit that was passed.
+pub fn plans_are_limited()
+    ensures { PlansAreLimited }
+{}
+
+/// Law: of two inputs that both fail a join has the left one's error.
+pub fn first_errors_are_of_the_left()
+    ensures { FirstErrorsAreOfTheLeft }
+{}
+
+/// Law: which rows filters, projections and slices have, and at which places.
+pub fn selections_keep_places()
+    ensures { SelectionsKeepPlaces }
+{}
+
+/// Law: which rows a set operation has without `all`, and how often with it.
+pub fn set_operations_hold_their_rows()
+    ensures { SetOperationsHoldTheirRows }
+{}
+
+/// Law: the first key in which two rows differ alone decides; nulls stand where the key says, other values in its direction.
+pub fn sorts_go_by_the_first_key()
+    ensures { SortsGoByTheFirstKey }
 {}
 
 /// Law: small plans and the outcomes that they allow, written out.
