@@ -34,11 +34,11 @@ Some-is a b e = cc
 
 -- ---- results of one type, whatever the arguments are
 
-judged_typed : (test : Ordering → Bool) (o : Option Ordering) → HasType K.Boolean (judged test o)
+pub judged_typed : (test : Ordering → Bool) (o : Option Ordering) → HasType K.Boolean (judged test o)
 judged_typed test None = tt
 judged_typed test (Some o) = tt
 
-and_typed : (a b : Value) → HasType K.Boolean (and_value a b)
+pub and_typed : (a b : Value) → HasType K.Boolean (and_value a b)
 and_typed Null (Boolean false) = tt
 and_typed Null (Boolean true) = tt
 and_typed Null b = tt
@@ -61,7 +61,7 @@ and_typed (Date a) (Boolean false) = tt
 and_typed (Date a) (Boolean true) = tt
 and_typed (Date a) b = tt
 
-or_typed : (a b : Value) → HasType K.Boolean (or_value a b)
+pub or_typed : (a b : Value) → HasType K.Boolean (or_value a b)
 or_typed Null (Boolean false) = tt
 or_typed Null (Boolean true) = tt
 or_typed Null b = tt
@@ -84,7 +84,7 @@ or_typed (Date a) (Boolean false) = tt
 or_typed (Date a) (Boolean true) = tt
 or_typed (Date a) b = tt
 
-not_typed : (a : Value) → HasType K.Boolean (not_value a)
+pub not_typed : (a : Value) → HasType K.Boolean (not_value a)
 not_typed (Boolean b) = tt
 not_typed a = tt
 
@@ -104,7 +104,7 @@ length_typed : (a : Value) → HasType K.Integer (text_length a)
 length_typed (Text a) = tt
 length_typed a = tt
 
-text_test_typed : (test : List ℕ → List ℕ → Bool) (a b : Value) → HasType K.Boolean (text_test test a b)
+pub text_test_typed : (test : List ℕ → List ℕ → Bool) (a b : Value) → HasType K.Boolean (text_test test a b)
 text_test_typed test (Text a) (Text b) = tt
 text_test_typed test a b = tt
 
@@ -116,7 +116,7 @@ day_typed : (day : ℤ) (b : Bool) → is_day day ≡ b → HasType K.Date (if b
 day_typed day true e = (days_tested day).0 e
 day_typed day false e = tt
 
-date_moved_typed : (move : ℤ → ℤ → ℤ) (a b : Value) → HasType K.Date (date_moved move a b)
+pub date_moved_typed : (move : ℤ → ℤ → ℤ) (a b : Value) → HasType K.Date (date_moved move a b)
 date_moved_typed move (Date day) (Integer days) = day_typed (move day days) (is_day (move day days)) refl
 date_moved_typed move a b = tt
 

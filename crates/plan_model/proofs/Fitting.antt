@@ -48,7 +48,7 @@ same_fit kinds xs ys h fit = All-from_counts (FitsTypes kinds) xs (λ row more. 
 
 -- ---- rows that are made of others
 
-images_typed : (columns : List DataType) (items : List TypedExpr) (row : Row) → AllByRecursion (IsOver columns) items → FitsTypes columns row → HaveTypes (kinds_of items) (map (λ item. val item row) items)
+pub images_typed : (columns : List DataType) (items : List TypedExpr) (row : Row) → AllByRecursion (IsOver columns) items → FitsTypes columns row → HaveTypes (kinds_of items) (map (λ item. val item row) items)
 images_typed columns [] row over fits = tt
 images_typed columns (item ∷ items) row over fits = (values_typed columns item row over.0 fits, images_typed columns items row over.1 fits)
 
@@ -69,7 +69,7 @@ flat_map_fit columns kinds f (row ∷ rows) h fit = append_fit kinds (f row) (fl
 
 -- ---- joins
 
-both_have : (ks ls : List DataType) (vs ws : List Value) → HaveTypes ks vs → HaveTypes ls ws → HaveTypes (ks ++ ls) (vs ++ ws)
+pub both_have : (ks ls : List DataType) (vs ws : List Value) → HaveTypes ks vs → HaveTypes ls ws → HaveTypes (ks ++ ls) (vs ++ ws)
 both_have [] ls [] ws f g = g
 both_have [] ls (v ∷ vs) ws f g = absurd f
 both_have (k ∷ ks) ls [] ws f g = absurd f
@@ -118,7 +118,7 @@ none_of_none SetKind.Intersect false = refl
 none_of_none SetKind.Except true = refl
 none_of_none SetKind.Except false = refl
 
-in_one : (kind : SetKind) (all : Bool) (m n : ℕ) → 0 < copies kind all m n → (0 < m) ⊎ (0 < n)
+pub in_one : (kind : SetKind) (all : Bool) (m n : ℕ) → 0 < copies kind all m n → (0 < m) ⊎ (0 < n)
 in_one kind all zero zero h = absurd (omega (arith, none_of_none kind all))
 in_one kind all (suc m) n h = inl (omega arith)
 in_one kind all zero (suc n) h = inr (omega arith)
@@ -133,11 +133,11 @@ set_operation_fit kinds kind all a b rows f g h =
 
 -- ---- aggregates
 
-keys_fit : (columns : List DataType) (keys : List TypedExpr) (a : List Row) → AllByRecursion (IsOver columns) keys → Fit columns a → Fit (kinds_of keys) (key_values keys a)
+pub keys_fit : (columns : List DataType) (keys : List TypedExpr) (a : List Row) → AllByRecursion (IsOver columns) keys → Fit columns a → Fit (kinds_of keys) (key_values keys a)
 keys_fit columns [] a over fit = (tt, tt)
 keys_fit columns (key ∷ keys) a over fit = map_fit columns (kinds_of (key ∷ keys)) (image (key ∷ keys)) a (λ row p. image_fits columns (key ∷ keys) row over p) fit
 
-calls_fit : (columns kinds : List DataType) (calls : List AggregateCall) (rows : List Row) → AllZip (IsCallOver columns) calls kinds → Fit columns rows → HaveTypes kinds (map (λ c. call_value c rows) calls)
+pub calls_fit : (columns kinds : List DataType) (calls : List AggregateCall) (rows : List Row) → AllZip (IsCallOver columns) calls kinds → Fit columns rows → HaveTypes kinds (map (λ c. call_value c rows) calls)
 calls_fit columns [] [] rows over fit = tt
 calls_fit columns [] (call ∷ calls) rows over fit = absurd over
 calls_fit columns (kind ∷ kinds) [] rows over fit = absurd over

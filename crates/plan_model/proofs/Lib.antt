@@ -20,6 +20,7 @@ pub mod NullFacts
 pub mod OutcomeFacts
 pub mod Parts
 pub mod RangeFacts
+pub mod RangedRows
 pub mod RelationFacts
 pub mod RowCounts
 pub mod SelectionFacts
@@ -28,6 +29,7 @@ pub mod TypedValues
 pub mod TypesFacts
 pub mod TypingFacts
 pub mod ValueFacts
+pub mod ValueRangeFacts
 pub mod WorkedFacts
 pub mod WorkedPlanFacts
 pub mod WorkedRelationFacts

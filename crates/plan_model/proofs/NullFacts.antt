@@ -207,16 +207,16 @@ exact_kinds taken result kind kinds e = same_kinds taken kinds (was_true (pointw
     was_true false result kind e = cc
 
 -- the values of a function that takes exactly these types
-exact_typed : (taken : List DataType) (result kind : DataType) (kinds : List DataType) (values : List Value) → exactly taken result kinds ≡ Some kind → HaveTypes kinds values → HaveTypes taken values
+pub exact_typed : (taken : List DataType) (result kind : DataType) (kinds : List DataType) (values : List Value) → exactly taken result kinds ≡ Some kind → HaveTypes kinds values → HaveTypes taken values
 exact_typed taken result kind kinds values e h = subst (λ (ks : List DataType). HaveTypes ks values) (sym (exact_kinds taken result kind kinds e)) h
 
-pair_shape : (P : List Value → Type 0) (a b : DataType) (values : List Value) → HaveTypes (a ∷ b ∷ []) values → ((x y : Value) → HasType a x → HasType b y → P (x ∷ y ∷ [])) → P values
+pub pair_shape : (P : List Value → Type 0) (a b : DataType) (values : List Value) → HaveTypes (a ∷ b ∷ []) values → ((x y : Value) → HasType a x → HasType b y → P (x ∷ y ∷ [])) → P values
 pair_shape P a b [] h f = absurd h
 pair_shape P a b (x ∷ []) h f = absurd h.1
 pair_shape P a b (x ∷ y ∷ []) h f = f x y h.0 h.1.0
 pair_shape P a b (x ∷ y ∷ z ∷ values) h f = absurd h.1.1
 
-single_shape : (P : List Value → Type 0) (a : DataType) (values : List Value) → HaveTypes (a ∷ []) values → ((x : Value) → HasType a x → P (x ∷ [])) → P values
+pub single_shape : (P : List Value → Type 0) (a : DataType) (values : List Value) → HaveTypes (a ∷ []) values → ((x : Value) → HasType a x → P (x ∷ [])) → P values
 single_shape P a [] h f = absurd h
 single_shape P a (x ∷ []) h f = f x h.0
 single_shape P a (x ∷ y ∷ values) h f = absurd h.1

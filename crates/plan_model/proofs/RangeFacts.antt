@@ -17,17 +17,17 @@ number_at-next start step zero = refl
 number_at-next start step (suc place) = ap (λ z. z +ℤ step) (number_at-next start step place)
 
 -- a step up or down
-abbrev Goes : ℤ → Type 0
+abbrev pub Goes : ℤ → Type 0
 Goes step = (pos 0 <ℤ step) ⊎ (step <ℤ pos 0)
 
-goes : (step : ℤ) → step ≢ pos 0 → Goes step
+pub goes : (step : ℤ) → step ≢ pos 0 → Goes step
 goes step h = by_lt_z (pos 0) step (λ up. inl up) (λ down. inr (omega (arith, ints)))
 
-number_at-up : (start step : ℤ) (place : ℕ) → pos 0 <ℤ step → start ≤ℤ number_at start step place
+pub number_at-up : (start step : ℤ) (place : ℕ) → pos 0 <ℤ step → start ≤ℤ number_at start step place
 number_at-up start step zero up = omega (arith, ints)
 number_at-up start step (suc place) up = omega (arith, ints, number_at-up start step place up)
 
-number_at-down : (start step : ℤ) (place : ℕ) → step <ℤ pos 0 → number_at start step place ≤ℤ start
+pub number_at-down : (start step : ℤ) (place : ℕ) → step <ℤ pos 0 → number_at start step place ≤ℤ start
 number_at-down start step zero down = omega (arith, ints)
 number_at-down start step (suc place) down = omega (arith, ints, number_at-down start step place down)
 

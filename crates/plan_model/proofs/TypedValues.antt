@@ -40,7 +40,7 @@ column_typed kind (a ∷ columns) [] place e h = absurd h
 column_typed kind (a ∷ columns) (value ∷ values) zero e h = of_kind a kind value e h.0
 column_typed kind (a ∷ columns) (value ∷ values) (suc place) e h = column_typed kind columns values place e h.1
 
-date_in_range : (kind : DataType) (value : Value) → HasType kind value → HasDateInRange value
+pub date_in_range : (kind : DataType) (value : Value) → HasType kind value → HasDateInRange value
 date_in_range K.Date (Date day) h = h
 date_in_range kind (Date day) h = absurd h
 date_in_range kind value h = tt
@@ -88,22 +88,24 @@ one_of_all P v [] all one = absurd one
 one_of_all P v (w ∷ values) all (inl e) = subst P (sym e) all.0
 one_of_all P v (w ∷ values) all (inr one) = one_of_all P v values all.1 one
 
--- the present values are given as a list of their own, so that a least value of none is null
-least_typed : (kind : DataType) (values here : List Value) → present values ≡ here → AllByRecursion (HasType kind) values → HasType kind (least values)
-least_typed kind values [] e all = subst (HasType kind) (sym (ap (λ (us : List Value). unwrap_or (reduce (ord_min value_cmp) us) Null) e)) (HasType-Null kind)
-least_typed kind values (v ∷ here) e all =
-    one_of_all (HasType kind) (least values) (present values) (AllByRecursion-filter (HasType kind) is_present values all) (extremes.least_reached values (λ f. some-cons (sym e ∙ f)))
-  where
-    some-cons : (v ∷ here) ≢ []
-    some-cons f = cc
+module _ (P : Value → Type 0) (of_null : P Null) where
+  -- what holds of null and of all values holds of the least one; the present values are given as a list of their own, so that a least value of
+  -- none is null
+  pub least_is : (values here : List Value) → present values ≡ here → AllByRecursion P values → P (least values)
+  least_is values [] e all = subst P (sym (ap (λ (us : List Value). unwrap_or (reduce (ord_min value_cmp) us) Null) e)) of_null
+  least_is values (v ∷ here) e all =
+      one_of_all P (least values) (present values) (AllByRecursion-filter P is_present values all) (extremes.least_reached values (λ f. some-cons (sym e ∙ f)))
+    where
+      some-cons : (v ∷ here) ≢ []
+      some-cons f = cc
 
-greatest_typed : (kind : DataType) (values here : List Value) → present values ≡ here → AllByRecursion (HasType kind) values → HasType kind (greatest values)
-greatest_typed kind values [] e all = subst (HasType kind) (sym (ap (λ (us : List Value). unwrap_or (reduce (ord_max value_cmp) us) Null) e)) (HasType-Null kind)
-greatest_typed kind values (v ∷ here) e all =
-    one_of_all (HasType kind) (greatest values) (present values) (AllByRecursion-filter (HasType kind) is_present values all) (extremes.greatest_reached values (λ f. some-cons (sym e ∙ f)))
-  where
-    some-cons : (v ∷ here) ≢ []
-    some-cons f = cc
+  pub greatest_is : (values here : List Value) → present values ≡ here → AllByRecursion P values → P (greatest values)
+  greatest_is values [] e all = subst P (sym (ap (λ (us : List Value). unwrap_or (reduce (ord_max value_cmp) us) Null) e)) of_null
+  greatest_is values (v ∷ here) e all =
+      one_of_all P (greatest values) (present values) (AllByRecursion-filter P is_present values all) (extremes.greatest_reached values (λ f. some-cons (sym e ∙ f)))
+    where
+      some-cons : (v ∷ here) ≢ []
+      some-cons f = cc
 
 sum_typed : (here : List Value) (sum : Value) → HasType K.Long sum → HasType K.Long (unless_empty here sum)
 sum_typed [] sum h = tt
@@ -119,8 +121,8 @@ unfolding aggregate_of
 aggregate_typed Function.Count true kind argument values e all = of_kind K.Long kind (count_of true values) e tt
 aggregate_typed Function.Count false kind argument values e all = of_kind K.Long kind (count_of false values) e tt
 aggregate_typed Function.Sum false kind argument values e all = long_where kind (wider argument argument) (sum_of values) e (sum_typed (present values) (wrapped_long (total (present values))) tt)
-aggregate_typed Function.Min false kind argument values e all = of_kind argument kind (least values) e (least_typed argument values (present values) refl all)
-aggregate_typed Function.Max false kind argument values e all = of_kind argument kind (greatest values) e (greatest_typed argument values (present values) refl all)
+aggregate_typed Function.Min false kind argument values e all = of_kind argument kind (least values) e (least_is (HasType argument) (HasType-Null argument) values (present values) refl all)
+aggregate_typed Function.Max false kind argument values e all = of_kind argument kind (greatest values) e (greatest_is (HasType argument) (HasType-Null argument) values (present values) refl all)
 aggregate_typed other distinct kind argument values e all = cc
 
 rows_aggregate_typed : (function : Function) (distinct : Bool) (kind : DataType) (rows : List Row) → aggregate_type function distinct None ≡ Some kind → HasType kind (rows_aggregate_of function rows)

@@ -34,6 +34,7 @@ pub mod Truth
 pub mod TypingLaws
 pub mod Val
 pub mod ValueLaws
+pub mod ValueRanges
 pub mod WellFormed
 pub mod WorkedPlans
 pub mod WorkedRows

@@ -4,6 +4,7 @@ ghost use Rattle.plan_model.specs.CallLaws.{ComparisonsFollowTheOrder, Arithmeti
 ghost use Rattle.plan_model.specs.FunctionLaws.{NumbersWrap, TextsStartAndEnd, DatePartsAreOfTheCalendar};
 ghost use Rattle.plan_model.specs.TypingLaws.{CallsAreOfTheTable, AggregatesAreOfTheTable};
 ghost use Rattle.plan_model.specs.ValueLaws.{ValuesOfForms, CastsGiveTheType, DaysAreTested, PartsAreWithin, ValuesHaveTheirType};
+ghost use Rattle.plan_model.specs.ValueRanges.{ValuesAreInRange, CallsAreInRange};
 ghost use Rattle.plan_model.specs.WorkedRows.{WorkedNumbers, WorkedTruths, WorkedComparisons, WorkedTextsAndDates, WorkedCasts, WorkedAggregates};
 ghost use Rattle.plan_model.specs.WorkedTypes.{WorkedCallTypes, WorkedAggregateTypes, CastsOfTypes};
 
@@ -88,6 +89,13 @@ pub fn values_have_their_type()
 /// Law: the value of a well-formed aggregate call over rows that fit has the call's type.
 pub fn calls_have_their_type()
     ensures { CallsHaveTheirType }
+{}
+
+/// Law: the value of a well-formed expression, and of a well-formed aggregate call, over rows in range is in range: numbers have the bits of
+/// their types and texts are UTF-8.
+pub fn values_are_in_range()
+    ensures expressions { ValuesAreInRange }
+    ensures aggregates { CallsAreInRange }
 {}
 
 /// Law: the value of an aggregate call does not depend on the order of the rows.

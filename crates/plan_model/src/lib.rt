@@ -22,8 +22,8 @@ pub use laws::{
     de_morgan_holds, distinct_values_are_counted, equality_tells_sameness, extremes_are_reached,
     in_tells_members, no_values_sum_to_null, null_safe_equality_tells_sameness, nulls_are_told,
     numbers_wrap, parts_are_within, texts_are_made_of_parts, texts_start_and_end, totals_add_up,
-    truth_commutes, truth_tables_are_three_valued, values_follow_the_form, values_have_their_type,
-    when_takes_the_first, worked_rows_hold, worked_types_hold,
+    truth_commutes, truth_tables_are_three_valued, values_are_in_range, values_follow_the_form,
+    values_have_their_type, when_takes_the_first, worked_rows_hold, worked_types_hold,
 };
 pub use node::{AggregateCall, JoinKind, Node, SetKind, SortKey};
 pub use outcome::Outcome;
@@ -32,7 +32,8 @@ pub use plan_laws::{
     determined_outcomes_are_alike, distinct_rows_are_a_set, first_errors_are_of_the_left,
     joins_count_their_rows, joins_go_by_conditions, joins_hold_their_rows, joins_match,
     one_row_without_keys, permutations_have_the_same_counts, plans_are_limited,
-    plans_have_outcomes, relations_follow_their_kind, rows_are_limited, rows_are_within_limits,
-    rows_fit, selections_keep_places, set_operations_count, set_operations_hold_their_rows,
-    sorted_rows_stay, sorts_go_by_the_first_key, sorts_without_ties_are_unique, worked_plans_hold,
+    plans_have_outcomes, relations_follow_their_kind, rows_are_in_range, rows_are_limited,
+    rows_are_within_limits, rows_fit, selections_keep_places, set_operations_count,
+    set_operations_hold_their_rows, sorted_rows_stay, sorts_go_by_the_first_key,
+    sorts_without_ties_are_unique, worked_plans_hold,
 };

@@ -4,6 +4,7 @@ ghost use Rattle.plan_model.specs.LimitLaws.{RowsAreLimited, PlansAreLimited, Fi
 ghost use Rattle.plan_model.specs.OutcomeLaws.{ChosenIsAllowed, EveryPlanHasAnOutcome, RowsHaveTheTypes, RowsFitTheSchema, RowsAreWithinLimits, DeterminedOutcomesAreAlike};
 ghost use Rattle.plan_model.specs.RelationLaws.{PermutationsHaveTheSameCounts, JoinsMatch, JoinsHoldTheirRows, SetOperationsCount, OneRowWithoutKeys, DistinctRowsAreASet, SortedRowsStay, SortsWithoutTiesAreUnique};
 ghost use Rattle.plan_model.specs.SelectionLaws.{SelectionsKeepPlaces, SetOperationsHoldTheirRows, SortsGoByTheFirstKey};
+ghost use Rattle.plan_model.specs.ValueRanges.{RowsAreInRange};
 ghost use Rattle.plan_model.specs.WorkedPlans.{WorkedPlans};
 
 /// Law: the outcomes and the types of each kind of relation, and whether it is well formed, by those of its inputs; and whether each form
@@ -25,6 +26,11 @@ pub fn plans_have_outcomes()
 pub fn rows_fit()
     ensures relation { RowsHaveTheTypes }
     ensures plan { RowsFitTheSchema }
+{}
+
+/// Law: the rows that a well-formed relation allows are in range, where the rows, numbers and literals in it are.
+pub fn rows_are_in_range()
+    ensures { RowsAreInRange }
 {}
 
 /// Law: the rows of an allowed outcome are within the limits, in number and in weight.
