@@ -1,10 +1,10 @@
 -- What calls of functions hold.
-use Rattle.std.proofs.Common.{◌≡◌, ◌≢◌, ◌↔◌, ◌<◌, ◌-◌, ◌%◌, ℕ, zero, suc, ℤ, pos, negsuc, ◌+ℤ◌, ◌-ℤ◌, ◌*ℤ◌, Bool, true, false, ◌||◌, if◌then◌else◌, Option, None, Some, option_and_then, unwrap_or, List, [], ◌∷◌, ◌++◌, map, replicate, length, take, drop, refl, sym, ap, ◌∙◌, subst, inl, inr, ◌⊎◌, arith}
+use Rattle.std.proofs.Common.{◌≡◌, ◌≢◌, ◌↔◌, ◌<◌, ◌%◌, ℕ, zero, suc, ℤ, pos, negsuc, ◌+ℤ◌, ◌-ℤ◌, ◌*ℤ◌, Bool, true, false, if◌then◌else◌, Option, Some, unwrap_or, List, [], ◌∷◌, ◌++◌, map, replicate, length, refl, sym, ap, ◌∙◌, subst, inl, inr, ◌⊎◌, arith}
 use Rattle.std.specs.Prelude.{◌≤ℤ◌, neg_ℤ, find, int_div, int_rem, unsigned_abs}
 use Rattle.std.specs.declared.cmp.Ordering.{Ordering}
 use Rattle.std.specs.List.{AllByRecursion, flat_map}
-use Rattle.std.specs.Ordering.{is_eq, is_ne, is_lt, is_le, is_gt, is_ge, int_eq, is_some_and}
-use Rattle.std.proofs.lemmas.Bool.{false≢true, false_from_ne_true}
+use Rattle.std.specs.Ordering.{is_eq, is_ne, is_lt, is_le, is_gt, is_ge, int_eq}
+use Rattle.std.proofs.lemmas.Bool.{false_from_ne_true}
 use Rattle.std.proofs.Math.Nat.{mod-eq_of_lt}
 use Rattle.std.proofs.lemmas.Bool.Decides.{Decides-int_eq}
 use Rattle.std.proofs.lemmas.Int.{ints, quot-rem, rem_below}
@@ -13,15 +13,14 @@ use Rattle.cn_types.specs.declared.value.DataType.{DataType}
 use Rattle.cn_types.specs.declared.value.DataType.TheVariants as K
 use Rattle.cn_types.specs.declared.value.Value.{Value}
 use Rattle.cn_types.specs.declared.value.Value.TheVariants.{Null, Boolean, Integer, Long, Text, Date}
-use Rattle.cn_types.specs.Fit.{HasType, HaveTypes, IsDay}
+use Rattle.cn_types.specs.Fit.{HasType, IsDay}
 use Rattle.cn_types.specs.Order.{value_cmp, value_eq}
-use Rattle.plan_model.specs.declared.function.Function.{Function}
 use Rattle.plan_model.specs.AggregateLaws.{IsOneOf}
 use Rattle.plan_model.specs.Arithmetic.{arithmetic, number, wrapped_integer, wrapped_long, unless_by_zero, remainder, quotient, integral_divide, negative, absolute}
-use Rattle.plan_model.specs.CallLaws.{ComparesBy, ComparisonsFollowTheOrder, wrapped_to, AreNumbers, IsNumber, Computes, IsDivision, ArithmeticWraps, branches_of, AreNotTrue, WhenTakesTheFirst, CoalesceTakesTheFirst, equals, InTellsMembers, TextsAreMadeOfParts, DaysMove}
-use Rattle.plan_model.specs.Comparisons.{comparison, judged, is_not_distinct, equal_to, or_all, member_of}
+use Rattle.plan_model.specs.CallLaws.{ComparisonsFollowTheOrder, wrapped_to, IsDivision, ArithmeticWraps, branches_of, AreNotTrue, WhenTakesTheFirst, CoalesceTakesTheFirst, InTellsMembers, TextsAreMadeOfParts, DaysMove}
+use Rattle.plan_model.specs.Comparisons.{comparison, judged, is_not_distinct, equal_to, member_of}
 use Rattle.plan_model.specs.Conditionals.{widened, coalesce, when}
-use Rattle.plan_model.specs.DateFunctions.{is_day, date_in_range}
+use Rattle.plan_model.specs.DateFunctions.{date_in_range}
 use Rattle.plan_model.specs.Functions.{call}
 use Rattle.plan_model.specs.FunctionTypes.{wider, common, call_type}
 use Rattle.plan_model.specs.Texts.{joined, concat, has_start, has_end, has_part}

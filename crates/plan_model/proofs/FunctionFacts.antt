@@ -1,5 +1,5 @@
 -- What single functions hold.
-use Rattle.std.proofs.Common.{◌≡◌, ◌<◌, ◌+◌, ◌-◌, ◌%◌, ◌^◌, ℕ, suc, ℤ, pos, negsuc, ◌-ℤ◌, Bool, true, false, [], ◌∷◌, ◌++◌, length, take, drop, FitsSigned, refl, sym, ap, ◌∙◌, subst, lit≤, arith}
+use Rattle.std.proofs.Common.{◌≡◌, ◌<◌, ◌+◌, ◌-◌, ◌%◌, ◌^◌, ℕ, suc, ℤ, pos, negsuc, ◌-ℤ◌, Bool, true, false, [], ◌∷◌, length, take, drop, FitsSigned, refl, sym, ap, ◌∙◌, subst, lit≤, arith}
 use Rattle.std.specs.Prelude.{unsigned_abs, nat_lt, unwrap_or}
 use lib.Pow.{pow_pos}
 use mir.Syntax.{Width}

@@ -1,5 +1,5 @@
 -- Which rows match in a join, and how often rows stand in it.
-use Rattle.std.proofs.Common.{◌≡◌, ◌≢◌, ◌<◌, ◌+◌, ◌*◌, ℕ, Bool, true, false, not, ◌&&◌, cond, if◌then◌else◌, Option, None, Some, List, [], ◌∷◌, ◌++◌, map, filter, length, refl, sym, ap, ◌∙◌, subst, arith}
+use Rattle.std.proofs.Common.{◌≡◌, ◌+◌, ◌*◌, ℕ, Bool, true, false, not, ◌&&◌, cond, List, [], ◌∷◌, ◌++◌, map, filter, length, refl, sym, ap, ◌∙◌, subst, arith}
 use Rattle.std.specs.Cmp.{both_ways}
 use Rattle.std.specs.List.{AllByRecursion}
 use Rattle.std.proofs.lemmas.Bool.{and_parts, and_from}
@@ -10,14 +10,14 @@ use Rattle.cn_types.specs.declared.value.Value.TheVariants.{Null, Boolean, Integ
 use Rattle.cn_types.specs.Order.{count, row_eq}
 use Rattle.plan_model.specs.declared.node.JoinKind.{JoinKind}
 use Rattle.plan_model.specs.declared.node.Node.TheVariants as V
-use Rattle.plan_model.specs.Allows.{Allows, joining_of}
+use Rattle.plan_model.specs.Allows.{Allows}
 use Rattle.plan_model.specs.JoinCounts.{JoinsGoByConditions, HasBothSides, copies_as_pair, copies_left_alone, copies_right_alone, copies_of_both, JoinsCountTheirRows}
-use Rattle.plan_model.specs.Joins.{Joining, beside, pairs, has_right, has_left, left_alone, right_alone, joined, IsJoin}
-use Rattle.plan_model.specs.Outcomes.{Evaluated, Allowed}
+use Rattle.plan_model.specs.Joins.{Joining, beside, pairs, has_right, has_left, left_alone, right_alone, joined}
+use Rattle.plan_model.specs.Outcomes.{Allowed}
 use Rattle.plan_model.specs.Truth.{is_true}
 use Rattle.plan_model.specs.Val.{val}
 use Rattle.plan_model.proofs.AllowsFacts.{Allows-Join}
-use Rattle.plan_model.proofs.JoinFacts.{same_left, same_right, row_eq-same, count-beside, count-other}
+use Rattle.plan_model.proofs.JoinFacts.{same_left, same_right, count-beside, count-other}
 use Rattle.plan_model.proofs.Multisets.{AllByRecursion-filter, copies-cons, count_of_rest}
 use Rattle.plan_model.proofs.RowCounts.{row_exact, count-filter, count-append}
 

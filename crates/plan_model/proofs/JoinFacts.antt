@@ -120,7 +120,7 @@ pub some_from : (p : Row → Bool) (rows : List Row) (row : Row) → In rows row
 some_from p rows row h e = true_from_ne_false (list_any p rows) (λ f. false≢true (sym (none_of p rows f row h) ∙ e))
 
 module _ (joining : Joining) (a b : List Row) where
-  pair_of : (row : Row) → In (pairs joining a b) row → IsPair joining a b row
+  pub pair_of : (row : Row) → In (pairs joining a b) row → IsPair joining a b row
   pair_of row h =
       let part = in_flat_map (λ left. map (beside left) (filter (joining.matching left) b)) a row h in
       let image = in_map (beside part.0) (filter (joining.matching part.0) b) row part.2 in

@@ -12,6 +12,7 @@ pub mod Fitting
 pub mod FunctionFacts
 pub mod JoinCountFacts
 pub mod JoinFacts
+pub mod JoinMatchFacts
 pub mod KindFacts
 pub mod LimitFacts
 pub mod Multisets
@@ -31,5 +32,7 @@ pub mod TypingFacts
 pub mod ValueFacts
 pub mod ValueRangeFacts
 pub mod WorkedFacts
+pub mod WorkedJoinFacts
 pub mod WorkedPlanFacts
 pub mod WorkedRelationFacts
+pub mod WorkedSortFacts

@@ -1,6 +1,6 @@
 -- The limits, both ways, and which error comes first.
-use Rattle.std.proofs.Common.{◌≡◌, ◌≢◌, ◌↔◌, ◌<◌, ◌≤◌, ◌+◌, ◌-◌, ◌^◌, min, ℕ, Bool, true, false, nat_lt, ◌||◌, if◌then◌else◌, Option, List, [], ◌∷◌, ◌++◌, length, replicate, Ok, Err, refl, sym, ap, ◌∙◌, subst, inl, inr, lit<, lit≤, arith}
-use Rattle.std.specs.List.{AllByRecursion, list_any, sum_by}
+use Rattle.std.proofs.Common.{◌≡◌, ◌↔◌, ◌<◌, ◌≤◌, ◌+◌, ◌-◌, ◌^◌, min, ℕ, Bool, true, false, nat_lt, if◌then◌else◌, Option, List, [], ◌∷◌, ◌++◌, length, replicate, Ok, Err, refl, sym, ap, ◌∙◌, subst, inl, inr, lit<, arith}
+use Rattle.std.specs.List.{AllByRecursion, list_any}
 use Rattle.std.proofs.lemmas.Bool.{lt-ltb, ltb-true, ltb-false, false_from_ne_true, or_from}
 use Rattle.std.proofs.lemmas.List.{length-append, length-replicate}
 use Rattle.std.proofs.lemmas.List.Elements.{All-from_recursion, recursion_from_All}
@@ -15,7 +15,7 @@ use Rattle.plan_model.specs.declared.node.Node.{Node}
 use Rattle.plan_model.specs.declared.node.Node.TheVariants as V
 use Rattle.plan_model.specs.Allows.{Allows, joining_of}
 use Rattle.plan_model.specs.Joins.{IsJoin}
-use Rattle.plan_model.specs.LimitLaws.{RowsAreLimited, PlansAreLimited, AreTooMuch, FirstErrorsAreOfTheLeft}
+use Rattle.plan_model.specs.LimitLaws.{RowsAreLimited, PlansAreLimited, FirstErrorsAreOfTheLeft}
 use Rattle.plan_model.specs.OutcomeLaws.{IsDetermined}
 use Rattle.plan_model.specs.Outcomes.{PlanError, Evaluated, Allowed, Bounded, After, limited, is_too_large, row_limit, weight_limit}
 use Rattle.plan_model.specs.WorkedPlans.{given, one}

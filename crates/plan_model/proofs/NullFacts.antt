@@ -1,5 +1,5 @@
 -- When calls are null.
-use Rattle.std.proofs.Common.{◌≡◌, ◌≢◌, ◌↔◌, ℕ, ℤ, pos, ◌+ℤ◌, ◌-ℤ◌, ◌*ℤ◌, Bool, true, false, not, ◌&&◌, ◌||◌, if◌then◌else◌, Option, None, Some, unwrap_or, List, [], ◌∷◌, ◌++◌, map, refl, sym, ap, ◌∙◌, subst, inl, inr, ◌⊎◌}
+use Rattle.std.proofs.Common.{◌≡◌, ◌≢◌, ℕ, ℤ, pos, ◌+ℤ◌, ◌-ℤ◌, ◌*ℤ◌, Bool, true, false, not, ◌||◌, if◌then◌else◌, Option, None, Some, unwrap_or, List, [], ◌∷◌, ◌++◌, refl, sym, ap, ◌∙◌, subst, inl, inr, ◌⊎◌}
 use Rattle.std.specs.Prelude.{find, int_rem, int_div, neg_ℤ, unsigned_abs}
 use Rattle.std.specs.Cmp.Lexicographic.{pointwise}
 use Rattle.std.specs.declared.cmp.Ordering.{Ordering}
@@ -16,17 +16,17 @@ use Rattle.cn_types.specs.Fit.{HasType, HaveTypes, IsDay}
 use Rattle.cn_types.specs.Order.{value_cmp}
 use Rattle.plan_model.specs.declared.function.Function.{Function}
 use Rattle.plan_model.specs.AggregateLaws.{IsOneOf}
-use Rattle.plan_model.specs.Arithmetic.{arithmetic, number, wrapped_long, unless_by_zero, remainder, quotient, integral_divide, negative, absolute}
+use Rattle.plan_model.specs.Arithmetic.{arithmetic, number, unless_by_zero, remainder, quotient, integral_divide, negative, absolute}
 use Rattle.plan_model.specs.CallLaws.{IsAllowedCall, wrapped_to, branches_of, AreNotTrue, treats_null, IsNullFor, NullsAreTold}
-use Rattle.plan_model.specs.Comparisons.{comparison, judged, compared, equal_to, equal_null_safe, or_all, member_of}
+use Rattle.plan_model.specs.Comparisons.{judged, compared, equal_null_safe, member_of}
 use Rattle.plan_model.specs.Conditionals.{widened, coalesce, when}
 use Rattle.plan_model.specs.DateFunctions.{is_day, date_in_range, date_moved, date_difference, date_part}
 use Rattle.plan_model.specs.Functions.{of_one, of_two, of_first, call}
 use Rattle.plan_model.specs.FunctionTypes.{same_kind, wider, common, common_of, exactly, by_one, by_two, always, in_type, concat_type, call_type}
 use Rattle.plan_model.specs.Texts.{joined, concat, text_length, has_start, has_end, has_part, text_test}
 use Rattle.plan_model.specs.Truth.{and_value, or_value, not_value, is_null, is_not_null, is_true, is_present}
-use Rattle.plan_model.proofs.CallFacts.{compares, compared_in, computed, different_numbers, negated, made_absolute, quotient_is, remainder_is, present-is, when-nothing, widened-Null, in_range}
-use Rattle.plan_model.proofs.CallTypes.{Some-is, Widens, common_widens}
+use Rattle.plan_model.proofs.CallFacts.{compares, compared_in, computed, negated, made_absolute, quotient_is, remainder_is, present-is, when-nothing, widened-Null, in_range}
+use Rattle.plan_model.proofs.CallTypes.{Widens, common_widens}
 use Rattle.plan_model.proofs.CastFacts.{days_tested}
 
 -- ---- a null argument

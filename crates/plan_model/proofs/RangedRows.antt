@@ -1,5 +1,5 @@
 -- The rows that a well-formed relation allows are in range.
-use Rattle.std.proofs.Common.{◌≡◌, ◌≢◌, ◌<◌, ◌≤◌, ◌^◌, ℕ, zero, suc, ℤ, pos, negsuc, ◌<ℤ◌, Bool, true, false, not, Option, None, Some, Ok, List, [], ◌∷◌, ◌++◌, map, length, filter, replicate, take, drop, ◌⊎◌, refl, sym, ap, ◌∙◌, subst, inl, inr, lit<, arith}
+use Rattle.std.proofs.Common.{◌≡◌, ◌<◌, ◌≤◌, ◌^◌, ℕ, zero, suc, ℤ, pos, negsuc, ◌<ℤ◌, Bool, not, Option, None, Some, Ok, List, [], ◌∷◌, ◌++◌, map, length, filter, replicate, take, drop, ◌⊎◌, sym, subst, inl, inr, lit<, arith}
 use Rattle.std.specs.Prelude.{IfSome, ◌≤ℤ◌}
 use Rattle.std.specs.List.{AllByRecursion, AllZip, flat_map}
 use Rattle.std.proofs.lemmas.Int.{ints}
@@ -8,7 +8,7 @@ use Rattle.cn_types.specs.declared.row.Row.{Row}
 use Rattle.cn_types.specs.declared.value.DataType.{DataType}
 use Rattle.cn_types.specs.declared.value.Value.{Value}
 use Rattle.cn_types.specs.declared.value.Value.TheVariants.{Null}
-use Rattle.cn_types.specs.Fit.{FitsTypes, HaveTypes, IsLong, IsInteger, IsValue}
+use Rattle.cn_types.specs.Fit.{FitsTypes, IsLong, IsValue}
 use Rattle.cn_types.specs.Order.{count, row_eq}
 use Rattle.plan_model.specs.declared.expression.TypedExpr.{TypedExpr}
 use Rattle.plan_model.specs.declared.node.AggregateCall.{AggregateCall}
@@ -21,12 +21,12 @@ use Rattle.plan_model.specs.Aggregates.{call_value}
 use Rattle.plan_model.specs.Allows.{Allows, joining_of}
 use Rattle.plan_model.specs.Counts.{SameCounts}
 use Rattle.plan_model.specs.Groups.{key_values, group, key_and_calls, aggregated, IsAggregate, IsDistinctOn}
-use Rattle.plan_model.specs.Joins.{Joining, beside, nulls, pairs, has_right, has_left, left_alone, right_alone, joined, IsJoin}
+use Rattle.plan_model.specs.Joins.{Joining, beside, pairs, has_right, has_left, left_alone, right_alone, joined, IsJoin}
 use Rattle.plan_model.specs.NodeTypes.{kinds_of, types}
 use Rattle.plan_model.specs.Outcomes.{Allowed, Bounded, After, row_limit}
-use Rattle.plan_model.specs.Ranges.{IsNumberOf, IsRange, number_at}
+use Rattle.plan_model.specs.Ranges.{IsNumberOf, IsRange}
 use Rattle.plan_model.specs.Selections.{image, projected, selected, sliced}
-use Rattle.plan_model.specs.SetOperations.{copies, IsSetOperation}
+use Rattle.plan_model.specs.SetOperations.{IsSetOperation}
 use Rattle.plan_model.specs.Sorting.{IsSort}
 use Rattle.plan_model.specs.Truth.{is_true}
 use Rattle.plan_model.specs.Val.{val}
@@ -55,7 +55,7 @@ AllFit kinds rows = AllByRecursion (FitsTypes kinds) rows
 same_ranged : (xs ys : List Row) → SameCounts xs ys → AllRanged ys → AllRanged xs
 same_ranged xs ys h all = All-from_counts Ranged xs (λ row more. counts-from_All Ranged ys all row (subst (λ n. 0 < n) (h row) more))
 
-both_all : (P : Value → Type 0) (xs ys : List Value) → AllByRecursion P xs → AllByRecursion P ys → AllByRecursion P (xs ++ ys)
+pub both_all : (P : Value → Type 0) (xs ys : List Value) → AllByRecursion P xs → AllByRecursion P ys → AllByRecursion P (xs ++ ys)
 both_all P [] ys f g = g
 both_all P (x ∷ xs) ys f g = (f.0, both_all P xs ys f.1 g)
 

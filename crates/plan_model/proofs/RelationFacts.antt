@@ -1,5 +1,5 @@
 -- What the rows of single relations hold.
-use Rattle.std.proofs.Common.{◌≡◌, ◌≤◌, ◌<◌, ◌+◌, ◌*◌, ℕ, Bool, true, false, not, cond, ◌==◌, if◌then◌else◌, Some, Ok, List, [], ◌∷◌, ◌++◌, map, length, filter, length-append, refl, sym, ap, ◌∙◌, subst, inr, arith}
+use Rattle.std.proofs.Common.{◌≡◌, ◌≤◌, ◌<◌, ◌+◌, ℕ, Bool, true, false, cond, ◌==◌, if◌then◌else◌, Ok, List, [], ◌∷◌, map, length, filter, refl, sym, ap, ◌∙◌, subst, inr, arith}
 use mathlib.Core.Path.{subst₂}
 use Rattle.std.specs.List.{AllByRecursion}
 use Rattle.std.proofs.lemmas.List.{length-map}
@@ -8,19 +8,17 @@ use Rattle.std.proofs.lemmas.List.Sorted.{IsPermutation-refl}
 use Rattle.cn_types.specs.declared.row.Row.{Row}
 use Rattle.cn_types.specs.Order.{count, row_eq}
 use Rattle.cn_types.specs.Weight.{row_weight}
-use Rattle.plan_model.specs.declared.expression.TypedExpr.{TypedExpr}
-use Rattle.plan_model.specs.declared.node.JoinKind.{JoinKind}
 use Rattle.plan_model.specs.declared.node.Node.{Node}
 use Rattle.plan_model.specs.declared.node.Node.TheVariants as V
 use Rattle.plan_model.specs.declared.node.SetKind.{SetKind}
 use Rattle.plan_model.specs.Allows.{Allows, joining_of}
 use Rattle.plan_model.specs.Counts.{SameCounts, once, HasEachOnce}
 use Rattle.plan_model.specs.Groups.{aggregated, columns_of, IsAggregate, IsDistinctOn}
-use Rattle.plan_model.specs.Joins.{Joining, beside, pairs, has_right, IsJoin}
+use Rattle.plan_model.specs.Joins.{IsJoin}
 use Rattle.plan_model.specs.OutcomeLaws.{RowsAreWithinLimits}
 use Rattle.plan_model.specs.Outcomes.{Evaluated, Allowed, Bounded, After, limited, weight_limit}
 use Rattle.plan_model.specs.Ranges.{IsRange}
-use Rattle.plan_model.specs.RelationLaws.{JoinsMatch, SetOperationsCount, OneRowWithoutKeys, DistinctRowsAreASet, SortedRowsStay}
+use Rattle.plan_model.specs.RelationLaws.{SetOperationsCount, OneRowWithoutKeys, DistinctRowsAreASet, SortedRowsStay}
 use Rattle.plan_model.specs.Selections.{projected, selected, sliced}
 use Rattle.plan_model.specs.SetOperations.{copies, IsSetOperation}
 use Rattle.plan_model.specs.Sorting.{IsSort}
@@ -29,7 +27,7 @@ use Rattle.plan_model.proofs.Determined.{determined_outcomes_alike}
 use Rattle.plan_model.proofs.Multisets.{copies-here}
 use Rattle.plan_model.proofs.NodeFacts.{Cases, induct}
 use Rattle.plan_model.proofs.OutcomeFacts.{bounded_rows, bounded_within, bounded_from, after_rows, within_limits}
-use Rattle.plan_model.proofs.RowCounts.{row_exact, length-SameCounts, count-filter, All-from_counts}
+use Rattle.plan_model.proofs.RowCounts.{row_exact, length-SameCounts, All-from_counts}
 
 -- ---- limits
 
@@ -130,7 +128,7 @@ distinct_rows_are_a_set columns rows list fixed =
 
 -- ---- set operations
 
-nothing_counted : (rows : List Row) → ((row : Row) → count rows row ≡ 0) → rows ≡ []
+pub nothing_counted : (rows : List Row) → ((row : Row) → count rows row ≡ 0) → rows ≡ []
 nothing_counted [] h = refl
 nothing_counted (row ∷ rows) h = absurd (omega (arith, copies-here row_eq row_exact row rows, h row))
 
@@ -165,48 +163,8 @@ set_operations_count = record {
   at_most_once = λ kind a b rows h row. subst (λ n. n ≤ 1) (sym (h row)) (once-le kind (count a row) (count b row));
 }
 
--- ---- joins
-
-none_passes : (p : Row → Bool) (rows : List Row) → ((row : Row) → p row ≡ false) → filter p rows ≡ []
-none_passes p [] h = refl
-none_passes p (row ∷ rows) h = ap (λ (b : Bool). cond b (row ∷ filter p rows) (filter p rows)) (h row) ∙ none_passes p rows h
+-- ---- filters
 
 pub all_pass : (p : Row → Bool) (rows : List Row) → ((row : Row) → p row ≡ true) → filter p rows ≡ rows
 all_pass p [] h = refl
 all_pass p (row ∷ rows) h = ap (λ (b : Bool). cond b (row ∷ filter p rows) (filter p rows)) (h row) ∙ ap (λ rs. row ∷ rs) (all_pass p rows h)
-
-no_pairs : (joining : Joining) (a b : List Row) → ((left right : Row) → joining.matching left right ≡ false) → pairs joining a b ≡ []
-no_pairs joining [] b h = refl
-no_pairs joining (left ∷ a) b h = ap (λ rows. map (beside left) rows ++ pairs joining a b) (none_passes (joining.matching left) b (h left)) ∙ no_pairs joining a b h
-
-length-pairs : (joining : Joining) (a b : List Row) → ((left right : Row) → joining.matching left right ≡ true) → length (pairs joining a b) ≡ length a * length b
-length-pairs joining [] b h = omega arith
-length-pairs joining (left ∷ a) b h =
-    ap (λ rows. length (map (beside left) rows ++ pairs joining a b)) (all_pass (joining.matching left) b (h left))
-    ∙ length-append (map (beside left) b) (pairs joining a b)
-    ∙ omega (arith, length-map b (beside left), length-pairs joining a b h)
-
-split : (b : Bool) (n : ℕ) → cond b n 0 + cond (not b) n 0 ≡ n
-split true n = omega arith
-split false n = omega arith
-
-inner_rows : (left right : Node) (condition : TypedExpr) (rows : List Row) → Allows (V.Join left right JoinKind.Inner (Some condition)) (Ok rows)
-    → (a : List Row) × (b : List Row) × IsJoin JoinKind.Inner (joining_of (Some condition) left right) a b rows
-inner_rows left right condition rows h =
-    let joining = joining_of (Some condition) left right in
-    let s = after_rows (Allows left) (λ a. After (Allows right) (λ b. Bounded (IsJoin JoinKind.Inner joining a b))) rows
-    (allowed_as (V.Join left right JoinKind.Inner (Some condition)) (After (Allows left) (λ a. After (Allows right) (λ b. Bounded (IsJoin JoinKind.Inner joining a b)))) (Ok rows)
-    (Allows-Join left right JoinKind.Inner (Some condition)) h) in
-    let t = after_rows (Allows right) (λ b. Bounded (IsJoin JoinKind.Inner joining s.0 b)) rows s.2 in
-    (s.0, t.0, bounded_rows (IsJoin JoinKind.Inner joining s.0 t.0) rows t.2)
-
-pub joins_match : JoinsMatch
-joins_match = record {
-  never_true = λ left right condition never rows h.
-      let t = inner_rows left right condition rows h in
-      let joining = joining_of (Some condition) left right in
-      nothing_counted rows (λ row. t.2 row ∙ ap (λ (rs : List Row). count rs row) (no_pairs joining t.0 t.1 (λ l r. never (beside l r))));
-  semi_and_anti = λ joining a b semi anti f g row.
-      omega (arith, f row, g row, count-filter (has_right joining b) a row, count-filter (λ left. not (has_right joining b left)) a row, split (has_right joining b row) (count a row));
-  each_pair = λ joining a b rows matching h. length-SameCounts rows (pairs joining a b) h ∙ length-pairs joining a b matching;
-}

@@ -1,5 +1,5 @@
 -- What projections, filters, slices, set operations and sorts hold of their rows.
-use Rattle.std.proofs.Common.{◌≡◌, ◌≢◌, ◌<◌, ◌≤◌, ◌+◌, ◌-◌, min, ◌==◌, ℕ, zero, suc, Bool, true, false, cond, if◌then◌else◌, Option, None, Some, List, [], ◌∷◌, length, take, drop, slice_get, ◌⊎◌, refl, sym, ap, ◌∙◌, subst, inl, inr, arith}
+use Rattle.std.proofs.Common.{◌≡◌, ◌≢◌, ◌<◌, ◌≤◌, ◌+◌, min, ◌==◌, ℕ, zero, suc, Bool, true, false, cond, if◌then◌else◌, None, List, [], ◌∷◌, take, drop, slice_get, ◌⊎◌, refl, sym, ap, ◌∙◌, subst, inl, inr, arith}
 use Rattle.std.specs.declared.cmp.Ordering.{Ordering}
 use Rattle.std.specs.declared.cmp.Ordering.TheVariants.{Less, Equal, Greater}
 use Rattle.std.specs.Ordering.{bool_cmp, ordering_then}
@@ -9,12 +9,10 @@ use Rattle.std.proofs.lemmas.Option.{slice_get-map}
 use Rattle.cn_types.specs.declared.row.Row.{Row}
 use Rattle.cn_types.specs.declared.value.Value.{Value}
 use Rattle.cn_types.specs.declared.value.Value.TheVariants.{Null, Boolean, Integer, Long, Text, Date}
-use Rattle.cn_types.specs.Order.{count, value_cmp}
-use Rattle.plan_model.specs.declared.expression.TypedExpr.{TypedExpr}
-use Rattle.plan_model.specs.declared.node.SetKind.{SetKind}
+use Rattle.cn_types.specs.Order.{count}
 use Rattle.plan_model.specs.declared.node.SortKey.{SortKey}
 use Rattle.plan_model.specs.SelectionLaws.{SelectionsKeepPlaces, SetOperationsHoldTheirRows, SortsGoByTheFirstKey}
-use Rattle.plan_model.specs.Selections.{image, sliced}
+use Rattle.plan_model.specs.Selections.{image}
 use Rattle.plan_model.specs.Sorting.{nulls_order, values_order, key_order, rows_order}
 use Rattle.plan_model.specs.Truth.{is_true, is_present}
 use Rattle.plan_model.specs.Val.{val}

@@ -1,5 +1,5 @@
 -- The types of calls and aggregates are those of the table.
-use Rattle.std.proofs.Common.{◌≡◌, ◌≢◌, ◌↔◌, ◌⊎◌, ℕ, zero, suc, Bool, true, false, ◌&&◌, if◌then◌else◌, Option, None, Some, option_map, option_and_then, List, [], ◌∷◌, ◌++◌, length, replicate, refl, sym, ap, ◌∙◌, subst, inl, inr}
+use Rattle.std.proofs.Common.{◌≡◌, ◌≢◌, ◌⊎◌, ℕ, zero, suc, Bool, true, false, if◌then◌else◌, Option, None, Some, option_map, option_and_then, List, [], ◌∷◌, ◌++◌, length, replicate, refl, sym, ap, ◌∙◌, subst, inl, inr}
 use mathlib.Core.Path.{subst₂}
 use Rattle.std.specs.Cmp.Lexicographic.{pointwise}
 use Rattle.std.specs.List.{AllByRecursion, list_all}
@@ -7,7 +7,7 @@ use Rattle.std.proofs.lemmas.Bool.{and_parts}
 use Rattle.cn_types.specs.declared.value.DataType.{DataType}
 use Rattle.cn_types.specs.declared.value.DataType.TheVariants.{Boolean, Integer, Long, Text, Date}
 use Rattle.plan_model.specs.declared.function.Function.{Function}
-use Rattle.plan_model.specs.FunctionTypes.{same_kind, wider, common, common_of, exactly, by_one, by_two, always, when_values, when_type, in_type, concat_type, call_type, aggregate_type}
+use Rattle.plan_model.specs.FunctionTypes.{same_kind, wider, common, common_of, exactly, by_one, by_two, always, when_values, when_type, call_type, aggregate_type}
 use Rattle.plan_model.specs.TypingLaws.{IsNumeric, AreNumeric, HasLong, AreSame, branch_types, IsInTable, CallsAreOfTheTable, IsAggregateOf, AggregatesAreOfTheTable}
 use Rattle.plan_model.proofs.CallTypes.{Some-is, always_kind, chosen_kind}
 use Rattle.plan_model.proofs.NullFacts.{same_kind-is, exact_kinds, some_common}

@@ -1,9 +1,9 @@
 -- Values that are computed are values of a program.
-use Rattle.std.proofs.Common.{◌≡◌, ◌≢◌, ◌<◌, ◌≤◌, ◌+◌, ◌*◌, ◌/◌, ◌%◌, ◌^◌, ℕ, zero, suc, ℤ, pos, negsuc, ◌+ℤ◌, ◌-ℤ◌, ◌*ℤ◌, ◌==◌, ◌||◌, Bool, true, false, if◌then◌else◌, cond, Option, None, Some, option_map, unwrap_or, List, [], ◌∷◌, ◌++◌, map, filter, length, slice_get, slice_index, refl, sym, ap, ◌∙◌, subst, inl, inr, arith}
+use Rattle.std.proofs.Common.{◌≡◌, ◌<◌, ◌≤◌, ◌+◌, ◌/◌, ◌%◌, ◌^◌, ℕ, zero, suc, ℤ, pos, negsuc, ◌+ℤ◌, ◌-ℤ◌, ◌*ℤ◌, ◌==◌, ◌||◌, Bool, true, false, if◌then◌else◌, cond, Option, None, Some, unwrap_or, List, [], ◌∷◌, map, filter, length, slice_get, refl, sym, subst, arith}
 use lib.Utf8.{encode}
 use Rattle.std.specs.Prelude.{IfSome, IsUtf8, IsAscii, find, int_rem, ◌≤ℤ◌}
 use Rattle.std.specs.Fmt.{signed_decimal}
-use Rattle.std.specs.Int.{w32, w64, int_wrap}
+use Rattle.std.specs.Int.{w32, w64}
 use Rattle.std.specs.List.{AllByRecursion, list_any}
 use Rattle.std.specs.Ordering.{is_eq, is_ne, is_lt, is_le, is_gt, is_ge, int_eq}
 use Rattle.std.proofs.lemmas.Fmt.{IsAscii-signed}
@@ -19,21 +19,21 @@ use Rattle.cn_types.specs.declared.value.DataType.{DataType}
 use Rattle.cn_types.specs.declared.value.DataType.TheVariants as K
 use Rattle.cn_types.specs.declared.value.Value.{Value}
 use Rattle.cn_types.specs.declared.value.Value.TheVariants.{Null, Boolean, Integer, Long, Text, Date}
-use Rattle.cn_types.specs.Fit.{HasType, HasDateInRange, HaveTypes, FitsTypes, IsDay, IsInteger, IsLong, IsValue, value_at}
+use Rattle.cn_types.specs.Fit.{HasType, HasDateInRange, HaveTypes, FitsTypes, IsDay, IsInteger, IsLong, IsValue}
 use Rattle.cn_types.specs.Order.{value_eq}
 use Rattle.cn_types.specs.Printed.{boolean_text}
 use Rattle.plan_model.specs.declared.expression.TypedExpr.{TypedExpr}
 use Rattle.plan_model.specs.declared.expression.TypedExpr.TheOpen as O
 use Rattle.plan_model.specs.declared.expression.TypedExpr.TheVariants as V
 use Rattle.plan_model.specs.declared.function.Function.{Function}
-use Rattle.plan_model.specs.Aggregates.{present, different, total, unless_empty, count_of, sum_of, least, greatest, aggregate_of, rows_aggregate_of, called_over}
+use Rattle.plan_model.specs.Aggregates.{present, different, total, unless_empty, count_of, aggregate_of, rows_aggregate_of, called_over}
 use Rattle.plan_model.specs.Arithmetic.{arithmetic, number, unless_by_zero, remainder, quotient, integral_divide, negative, absolute, wrapped_long}
 use Rattle.plan_model.specs.Casts.{bit, cast_to}
-use Rattle.plan_model.specs.Comparisons.{judged, comparison, compared, equal_null_safe, equal_to, or_all, member_of}
+use Rattle.plan_model.specs.Comparisons.{comparison, compared, equal_null_safe, equal_to, member_of}
 use Rattle.plan_model.specs.Conditionals.{widened, coalesce, when}
 use Rattle.plan_model.specs.DateFunctions.{date_moved, date_difference, date_part}
 use Rattle.plan_model.specs.Functions.{of_one, of_two, of_first, call}
-use Rattle.plan_model.specs.FunctionTypes.{aggregate_type, call_type}
+use Rattle.plan_model.specs.FunctionTypes.{call_type}
 use Rattle.plan_model.specs.NodeTypes.{kind_of, kinds_of}
 use Rattle.plan_model.specs.Texts.{joined, concat, text_length, has_start, has_end, has_part, text_test}
 use Rattle.plan_model.specs.Truth.{and_value, or_value, not_value, is_null, is_not_null, is_true, is_present}
@@ -43,7 +43,6 @@ use Rattle.plan_model.specs.WellFormed.{IsFormOver, IsOver}
 use Rattle.plan_model.proofs.CallTypes.{judged_typed, and_typed, or_typed, not_typed, or_all_typed, text_test_typed, date_moved_typed}
 use Rattle.plan_model.proofs.ExpressionFacts.{Forms, induct, every_part, every_here}
 use Rattle.plan_model.proofs.Fitting.{images_typed}
-use Rattle.plan_model.proofs.Multisets.{AllByRecursion-filter}
 use Rattle.plan_model.proofs.NullFacts.{exact_typed, pair_shape, single_shape}
 use Rattle.plan_model.proofs.TypedValues.{date_in_range, least_is, greatest_is, values_typed}
 use Rattle.plan_model.proofs.ValueFacts.{values_of_forms}

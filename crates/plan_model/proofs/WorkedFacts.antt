@@ -92,7 +92,6 @@ worked_casts = record {
   boolean_to_text = refl;
   boolean_to_integer = refl;
   long_to_boolean = refl;
-  text_to_number = refl;
   null_to_text = refl;
   integer_to_boolean = refl;
   zero_to_boolean = refl;

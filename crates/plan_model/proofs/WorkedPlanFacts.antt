@@ -156,7 +156,7 @@ abbrev same_keys : TypedExpr
 same_keys = Call Function.EqualTo (first ∷ second ∷ []) DataType.Boolean
 
 -- a function of both columns
-val_pair : (function : Function) (kind : DataType) (row : Row) → val (Call function (first ∷ second ∷ []) kind) row ≡ call function kind (value_at 0 row ∷ value_at 1 row ∷ [])
+pub val_pair : (function : Function) (kind : DataType) (row : Row) → val (Call function (first ∷ second ∷ []) kind) row ≡ call function kind (value_at 0 row ∷ value_at 1 row ∷ [])
 val_pair function kind row =
     values_of_forms.call_form function (first ∷ second ∷ []) kind row
     ∙ ap (λ (v : Value). call function kind (v ∷ val second row ∷ [])) (values_of_forms.column 0 DataType.Long row)
@@ -185,7 +185,7 @@ by_key = joining_of (Some same_keys) (given left_rows) (given right_rows)
 abbrev join_node : Node
 join_node = V.Join (given left_rows) (given right_rows) JoinKind.Full (Some same_keys)
 
-nulls_of : (rows : List Row) → nulls (types (given rows)) ≡ null
+pub nulls_of : (rows : List Row) → nulls (types (given rows)) ≡ null
 nulls_of rows = ap nulls (types-Rows key_schema rows)
 
 matched : (left right : Row) → matches (Some same_keys) left right ≡ is_true (call Function.EqualTo DataType.Boolean (value_at 0 (beside left right) ∷ value_at 1 (beside left right) ∷ []))

@@ -124,7 +124,7 @@ given_counts : (rows a : List Row) → limited rows ≡ Ok rows → Allows (give
 given_counts rows a e h = determined_outcomes_alike (given rows) (given_determined rows) (Ok a) (Ok rows) h (given_allowed rows e)
 
 -- a relation in which no choice is made, and which allows a list, allows no error
-no_error : (node : Node) (rows : List Row) (error : PlanError) → IsDetermined node → Allows node (Ok rows) → Allows node (Err error) → ⊥
+pub no_error : (node : Node) (rows : List Row) (error : PlanError) → IsDetermined node → Allows node (Ok rows) → Allows node (Err error) → ⊥
 no_error node rows error fixed known h = determined_outcomes_alike node fixed (Err error) (Ok rows) h known
 
 -- ---- distinct rows
@@ -165,10 +165,10 @@ distinct_rows outcome = (
 
 -- ---- a sort
 
-abbrev mixed : List Row
+abbrev pub mixed : List Row
 mixed = null ∷ one ∷ two ∷ []
 
-abbrev fallen : List Row
+abbrev pub fallen : List Row
 fallen = two ∷ one ∷ null ∷ []
 
 abbrev keys : List SortKey
@@ -193,7 +193,7 @@ fallen_sort = record {
   turned : (a b c : Bool) → 0 + cond a 1 0 + cond b 1 0 + cond c 1 0 ≡ 0 + cond c 1 0 + cond b 1 0 + cond a 1 0
   turned a b c = omega arith
 
-both_equal : (o p : Ordering) → ordering_then o p ≡ Equal → (o ≡ Equal) × (p ≡ Equal)
+pub both_equal : (o p : Ordering) → ordering_then o p ≡ Equal → (o ≡ Equal) × (p ≡ Equal)
 both_equal Less p e = cc
 both_equal Equal p e = (refl, e)
 both_equal Greater p e = cc
@@ -216,10 +216,10 @@ no_ties x y p q e =
     let tie : value_order v.0 w.0 ≡ Equal = sym (order_of v.0 w.0) ∙ ap (λ (row : Row). rows_order keys row (row_with w.0)) (sym v.1) ∙ ap (rows_order keys x) (sym w.1) ∙ e in
     v.1 ∙ ap row_with (values_tie v.0 w.0 tie) ∙ sym w.1
 
-abbrev sort_node : Node
+abbrev pub sort_node : Node
 sort_node = V.Sort (given mixed) keys
 
-sort_allowed : Allows sort_node (Ok fallen)
+pub sort_allowed : Allows sort_node (Ok fallen)
 unfolding row_limit weight_limit
 sort_allowed =
     let all : After (Allows (given mixed)) (λ a. Bounded (IsSort keys a)) (Ok fallen) = inr (mixed, given_allowed mixed refl, (fallen, fallen_sort, refl)) in
@@ -229,14 +229,14 @@ sort_allowed =
 sort_of_same : (a list : List Row) → SameCounts a mixed → IsSort keys a list → IsSort keys mixed list
 sort_of_same a list h is = record { permuted = IsPermutation-trans mixed a list (rows_permuted mixed a (λ row. sym (h row))) is.permuted; ordered = is.ordered }
 
-sort_only : (list : List Row) → Allows sort_node (Ok list) → list ≡ fallen
+pub sort_only : (list : List Row) → Allows sort_node (Ok list) → list ≡ fallen
 unfolding row_limit weight_limit
 sort_only list h =
     let t = after_rows (Allows (given mixed)) (λ a. Bounded (IsSort keys a)) list (allowed_as sort_node (After (Allows (given mixed)) (λ a. Bounded (IsSort keys a))) (Ok list) (Allows-Sort (given mixed) keys) h) in
     let is = sort_of_same t.0 list (given_counts mixed t.0 refl t.1) (bounded_rows (IsSort keys t.0) list t.2) in
     sorts_without_ties_are_unique keys mixed list fallen no_ties is fallen_sort
 
-sort_determined : IsDetermined sort_node
+pub sort_determined : IsDetermined sort_node
 sort_determined = made-Sort IsNoChoice (given mixed) keys tt (given_determined mixed)
 
 second_of : (outcome : Evaluated) → After (Allows sort_node) (λ a. Bounded (λ list. list ≡ sliced 1 (Some 1) a)) outcome → outcome ≡ Ok (one ∷ [])

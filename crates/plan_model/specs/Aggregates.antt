@@ -1,4 +1,4 @@
--- Aggregate functions of Spark SQL over the values, or the rows, of one group. They pass over nulls.
+-- Aggregate functions, after Spark SQL's, over the values, or the rows, of one group. They pass over nulls.
 use Rattle.std.specs.Prelude.{ℤ, pos, ◌+ℤ◌, Bool, Option, None, Some, List, [], ◌∷◌, length, map, filter, unwrap_or, if◌then◌else◌}
 use Rattle.std.specs.List.{list_any, reduce}
 use Rattle.std.specs.Ordering.{ord_min, ord_max}
@@ -47,7 +47,7 @@ least values = unwrap_or (reduce (ord_min value_cmp) (present values)) Null
 abbrev pub greatest : List Value → Value
 greatest values = unwrap_or (reduce (ord_max value_cmp) (present values)) Null
 
--- the value of an aggregate function over values; null for a function that is no aggregate
+-- the value of an aggregate function over values; of a function that is no aggregate it means nothing
 unfoldable pub aggregate_of : Function → Bool → List Value → Value
 aggregate_of Function.Count distinct values = count_of distinct values
 aggregate_of Function.Sum distinct values = sum_of values
@@ -55,7 +55,7 @@ aggregate_of Function.Min distinct values = least values
 aggregate_of Function.Max distinct values = greatest values
 aggregate_of other distinct values = Null
 
--- a function of whole rows: `count(*)`
+-- a function of whole rows: `count(*)`; of another function it means nothing
 unfoldable pub rows_aggregate_of : Function → List Row → Value
 rows_aggregate_of Function.Count rows = Long (pos (length rows))
 rows_aggregate_of other rows = Null

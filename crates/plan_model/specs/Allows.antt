@@ -1,7 +1,6 @@
 -- Which outcomes a resolved plan allows.
 use Rattle.std.specs.Prelude.{◌≡◌, Option, Ok, Err}
 use Rattle.plan_model.specs.declared.expression.TypedExpr.{TypedExpr}
-use Rattle.plan_model.specs.declared.node.JoinKind.{JoinKind}
 use Rattle.plan_model.specs.declared.node.Node.{Node}
 use Rattle.plan_model.specs.declared.node.Node.TheOpen.{Node-F}
 use Rattle.plan_model.specs.declared.node.Node.TheFolds.{rec-Node}

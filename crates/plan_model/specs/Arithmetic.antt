@@ -1,4 +1,4 @@
--- Arithmetic of Spark SQL outside ANSI mode: integers of 32 bits and longs of 64 wrap in two's complement.
+-- Arithmetic after Spark SQL outside ANSI mode: integers of 32 bits and longs of 64 wrap in two's complement.
 use Rattle.std.specs.Prelude.{ℤ, pos, neg_ℤ, int_div, int_rem, unsigned_abs, Option, None, Some, if◌then◌else◌}
 use Rattle.std.specs.Int.{w32, w64, int_wrap}
 use Rattle.std.specs.Ordering.{int_eq}

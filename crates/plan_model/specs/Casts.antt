@@ -1,4 +1,4 @@
--- Casts of Spark SQL outside ANSI mode between the column types. A null stays null.
+-- Casts between the column types, after Spark SQL outside ANSI mode. A null stays null, and a cast that there isn't means nothing.
 use Rattle.std.specs.Prelude.{ℤ, pos, Bool, true, false, not}
 use Rattle.std.specs.Ordering.{int_eq}
 use Rattle.cn_types.specs.declared.value.DataType.{DataType}

@@ -7,7 +7,7 @@ use Rattle.cn_types.specs.declared.value.Value.{Value}
 use Rattle.cn_types.specs.declared.value.Value.TheVariants.{Null, Boolean, Integer, Long, Text, Date}
 use Rattle.plan_model.specs.Truth.{or_value}
 
--- how two values stand to each other: nothing where one is null, or where no type holds both
+-- how two values stand to each other: nothing where one is null. Values that no type holds both stand in no call that there is
 abbrev pub comparison : Value → Value → Option Ordering
 comparison (Boolean a) (Boolean b) = Some (bool_cmp a b)
 comparison (Integer a) (Integer b) = Some (int_cmp a b)

@@ -1,4 +1,4 @@
--- Conditional functions of Spark SQL, whose values all take the type of the call.
+-- Conditional functions, after Spark SQL's, whose values all take the type of the call.
 use Rattle.std.specs.Prelude.{List, [], ◌∷◌, if◌then◌else◌, find, unwrap_or}
 use Rattle.cn_types.specs.declared.value.DataType.{DataType}
 use Rattle.cn_types.specs.declared.value.Value.{Value}

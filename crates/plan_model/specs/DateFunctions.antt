@@ -1,4 +1,4 @@
--- Date functions of Spark SQL, on days from 0001-01-01 to 9999-12-31, counted from 1970-01-01.
+-- Date functions, after Spark SQL's, on days from 0001-01-01 to 9999-12-31, counted from 1970-01-01.
 use Rattle.std.specs.Prelude.{ℕ, ℤ, pos, ◌-ℤ◌, int_le, Bool, ◌&&◌, if◌then◌else◌}
 use Rattle.cn_types.specs.Fit.{first_day, last_day}
 use Rattle.cn_types.specs.declared.value.Value.{Value}

@@ -1,4 +1,4 @@
--- What single functions of Spark SQL hold, in the words of their manuals.
+-- What numbers that wrap, texts and dates hold.
 use Rattle.std.specs.Prelude.{◌≡◌, ◌↔◌, ◌^◌, ℕ, ℤ, pos, IsTrue, List, [], ◌∷◌, ◌++◌, FitsSigned}
 use Rattle.std.specs.Int.{w32, w64, int_rem_euclid}
 use Rattle.jiff_core.specs.Calendar.{days_from_civil, IsCivilDate}

@@ -1,5 +1,5 @@
--- Which arguments each function of Spark SQL takes, and the type of its call; which casts there are. "Same" types are one type, or
--- an integer with a long, which counts as a long.
+-- Which arguments each function takes, and the type of its call; which casts there are. The table is of this project's own, after Spark SQL's:
+-- a call or a cast that it doesn't have means nothing. "Same" types are one type, or an integer with a long, which counts as a long.
 use Rattle.std.specs.Prelude.{Bool, true, false, if◌then◌else◌, List, [], ◌∷◌, Option, None, Some, option_map, option_and_then}
 use Rattle.std.specs.List.{list_all}
 use Rattle.std.specs.Cmp.Lexicographic.{pointwise}

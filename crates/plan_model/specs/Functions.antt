@@ -1,4 +1,5 @@
--- The built-in functions of Spark SQL, one line each. Null where the arguments are not those that the function takes.
+-- The built-in functions, after Spark SQL's, one line each. A call that the table of functions doesn't allow means nothing: no well-formed plan
+-- has one, and that it is null here says nothing of Spark SQL.
 use Rattle.std.specs.Prelude.{◌+ℤ◌, ◌-ℤ◌, ◌*ℤ◌, List, [], ◌∷◌}
 use Rattle.std.specs.Ordering.{is_eq, is_ne, is_lt, is_le, is_gt, is_ge}
 use Rattle.cn_types.specs.Dates.{year_of, month_of, month_day_of}
@@ -26,7 +27,7 @@ abbrev pub of_first : (Value → List Value → Value) → List Value → Value
 of_first f (a ∷ others) = f a others
 of_first f [] = Null
 
--- the value of a call of this type over its arguments' values; an aggregate has none over one row
+-- the value of a call of this type over its arguments' values; a call of an aggregate over one row means nothing
 unfoldable pub call : Function → DataType → List Value → Value
 call Function.Add kind = of_two (arithmetic ◌+ℤ◌)
 call Function.Subtract kind = of_two (arithmetic ◌-ℤ◌)

@@ -37,5 +37,6 @@ pub mod ValueLaws
 pub mod ValueRanges
 pub mod WellFormed
 pub mod WorkedPlans
+pub mod WorkedRelations
 pub mod WorkedRows
 pub mod WorkedTypes

@@ -1,7 +1,8 @@
 -- What the rows of single relations hold.
-use Rattle.std.specs.Prelude.{◌≡◌, ◌↔◌, ℕ, ◌≤◌, ◌<◌, ◌+◌, ◌*◌, ◌⊎◌, true, false, List, [], length, All, IsPermutation, Some, Ok}
+use Rattle.std.specs.Prelude.{◌≡◌, ◌↔◌, ℕ, ◌≤◌, ◌<◌, ◌+◌, ◌*◌, ◌⊎◌, true, false, List, [], ◌++◌, length, All, IsPermutation, Some, Ok}
 use Rattle.std.specs.declared.cmp.Ordering.TheVariants.{Equal}
 use Rattle.cn_types.specs.declared.row.Row.{Row}
+use Rattle.cn_types.specs.Fit.{FitsTypes}
 use Rattle.cn_types.specs.Order.{count}
 use Rattle.plan_model.specs.declared.expression.TypedExpr.{TypedExpr}
 use Rattle.plan_model.specs.declared.node.AggregateCall.{AggregateCall}
@@ -14,20 +15,29 @@ use Rattle.plan_model.specs.Allows.{Allows}
 use Rattle.plan_model.specs.Counts.{SameCounts, HasEachOnce}
 use Rattle.plan_model.specs.Groups.{columns_of, IsDistinctOn}
 use Rattle.plan_model.specs.Joins.{Joining, beside, IsJoin}
+use Rattle.plan_model.specs.NodeTypes.{types}
 use Rattle.plan_model.specs.OutcomeLaws.{IsDetermined}
 use Rattle.plan_model.specs.SetOperations.{IsSetOperation}
 use Rattle.plan_model.specs.Sorting.{rows_order, IsInOrder, IsSort}
 use Rattle.plan_model.specs.Truth.{is_true}
 use Rattle.plan_model.specs.Val.{val}
+use Rattle.plan_model.specs.ValueRanges.{HasValuesInRange, HasContentInRange}
+use Rattle.plan_model.specs.WellFormed.{IsWellFormed}
 
 -- lists have the same counts exactly where one is a permutation of the other
 abbrev pub PermutationsHaveTheSameCounts : Type 0
 PermutationsHaveTheSameCounts = (xs ys : List Row) → IsPermutation xs ys ↔ SameCounts xs ys
 
--- an inner join whose condition is never true has no row; semi and anti joins split the left rows; a cross join has each pair
+-- an inner join whose condition is never true of rows that fit and are in range has no row
+abbrev pub NeverMatches : Type 0
+NeverMatches =
+    (left right : Node) (condition : TypedExpr) → IsWellFormed left → IsWellFormed right → HasContentInRange left → HasContentInRange right
+    → ((row : Row) → FitsTypes (types left ++ types right) row → HasValuesInRange row → is_true (val condition row) ≡ false)
+    → (rows : List Row) → Allows (Join left right JoinKind.Inner (Some condition)) (Ok rows) → rows ≡ []
+
+-- so it has; semi and anti joins split the left rows; a cross join of which each pair matches has so many rows as there are pairs
 pub record JoinsMatch : Type 0 where
-  pub never_true : (left right : Node) (condition : TypedExpr) → ((row : Row) → is_true (val condition row) ≡ false)
-      → (rows : List Row) → Allows (Join left right JoinKind.Inner (Some condition)) (Ok rows) → rows ≡ []
+  pub never_true : NeverMatches
   pub semi_and_anti : (joining : Joining) (a b semi anti : List Row) → IsJoin JoinKind.Semi joining a b semi → IsJoin JoinKind.Anti joining a b anti
       → (row : Row) → (count semi row + count anti row) ≡ count a row
   pub each_pair : (joining : Joining) (a b rows : List Row) → ((left right : Row) → joining.matching left right ≡ true) → IsJoin JoinKind.Cross joining a b rows → length rows ≡ (length a * length b)

@@ -1,4 +1,4 @@
--- Text functions of Spark SQL, on texts in UTF-8.
+-- Text functions, after Spark SQL's, on texts in UTF-8.
 use Rattle.std.specs.Prelude.{ℕ, pos, Bool, ◌||◌, List, [], ◌∷◌, ◌++◌, length, nat_eq}
 use Rattle.std.specs.List.{starts_with, ends_with}
 use Rattle.std.specs.Str.{chars}

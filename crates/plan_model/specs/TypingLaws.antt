@@ -1,5 +1,5 @@
 -- The table of functions and the aggregates, a line each.
-use Rattle.std.specs.Prelude.{◌≡◌, ◌≢◌, ◌↔◌, ◌⊎◌, ℕ, Bool, true, false, Option, None, Some, List, [], ◌∷◌, ◌++◌, flat_map, replicate}
+use Rattle.std.specs.Prelude.{◌≡◌, ◌≢◌, ◌↔◌, ◌⊎◌, ℕ, Bool, false, Option, None, Some, List, [], ◌∷◌, ◌++◌, flat_map, replicate}
 use Rattle.std.specs.List.{AllByRecursion}
 use Rattle.cn_types.specs.declared.value.DataType.{DataType}
 use Rattle.cn_types.specs.declared.value.DataType.TheVariants.{Boolean, Integer, Long, Text, Date}

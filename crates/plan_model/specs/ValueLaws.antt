@@ -1,8 +1,9 @@
 -- What the values of expressions hold.
-use Rattle.std.specs.Prelude.{◌≡◌, ◌↔◌, ℕ, ℤ, IsTrue, List, ◌++◌, map}
+use Rattle.std.specs.Prelude.{◌≡◌, ◌≢◌, ◌↔◌, ℕ, ℤ, IsTrue, List, ◌++◌, map}
 use Rattle.cn_types.specs.declared.row.Row.{Row}
 use Rattle.cn_types.specs.declared.value.DataType.{DataType}
 use Rattle.cn_types.specs.declared.value.Value.{Value}
+use Rattle.cn_types.specs.declared.value.Value.TheVariants.{Null}
 use Rattle.cn_types.specs.Fit.{HasType, HasDateInRange, IsDay, FitsTypes, value_at}
 use Rattle.plan_model.specs.declared.function.Function.{Function}
 use Rattle.plan_model.specs.declared.expression.TypedExpr.{TypedExpr}
@@ -10,6 +11,7 @@ use Rattle.plan_model.specs.declared.expression.TypedExpr.TheVariants.{Column, L
 use Rattle.plan_model.specs.Casts.{cast_to}
 use Rattle.plan_model.specs.DateFunctions.{is_day}
 use Rattle.plan_model.specs.Functions.{call}
+use Rattle.plan_model.specs.FunctionTypes.{can_cast}
 use Rattle.plan_model.specs.NodeTypes.{kind_of}
 use Rattle.plan_model.specs.Texts.{has_part}
 use Rattle.plan_model.specs.Val.{val}
@@ -22,10 +24,12 @@ pub record ValuesOfForms : Type 0 where
   pub call_form : (function : Function) (arguments : List TypedExpr) (kind : DataType) (row : Row) → val (Call function arguments kind) row ≡ call function kind (map (λ argument. val argument row) arguments)
   pub cast : (child : TypedExpr) (kind : DataType) (row : Row) → val (Cast child kind) row ≡ cast_to kind (val child row)
 
--- a cast gives a value of its type, and changes no value that has the type
+-- a cast gives a value of its type, and changes no value that has the type; a cast that there is gives null of null alone
 pub record CastsGiveTheType : Type 0 where
   pub typed : (kind : DataType) (value : Value) → HasDateInRange value → HasType kind (cast_to kind value)
   pub own_type : (kind : DataType) (value : Value) → HasType kind value → cast_to kind value ≡ value
+  pub null_stays : (kind : DataType) → cast_to kind Null ≡ Null
+  pub never_null : (from kind : DataType) (value : Value) → HasType from value → IsTrue (can_cast from kind) → value ≢ Null → cast_to kind value ≢ Null
 
 -- the test of a day is that it is in range
 abbrev pub DaysAreTested : Type 0

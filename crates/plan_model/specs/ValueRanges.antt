@@ -1,5 +1,5 @@
 -- Values that are computed are values of a program again: numbers have the bits of their types, and texts are UTF-8.
-use Rattle.std.specs.Prelude.{◌≡◌, ◌<◌, ◌^◌, ℕ, List, length, All, IfSome, Ok}
+use Rattle.std.specs.Prelude.{◌<◌, ◌^◌, List, length, All, IfSome, Ok}
 use Rattle.cn_types.specs.declared.row.Row.{Row}
 use Rattle.cn_types.specs.declared.value.DataType.{DataType}
 use Rattle.cn_types.specs.Fit.{IsLong, IsValue, FitsTypes}

@@ -1,4 +1,4 @@
--- Values of calls, casts and aggregates of Spark SQL outside ANSI mode, written out.
+-- Values of calls, casts and aggregates, written out.
 use Rattle.std.specs.Prelude.{◌≡◌, pos, negsuc, true, false, [], ◌∷◌}
 use Rattle.cn_types.specs.declared.value.DataType.{DataType}
 use Rattle.cn_types.specs.declared.value.Value.TheVariants.{Null, Boolean, Integer, Long, Text, Date}
@@ -113,7 +113,6 @@ pub record WorkedCasts : Type 0 where
   pub boolean_to_text : cast_to DataType.Text (Boolean true) ≡ Text (116 ∷ 114 ∷ 117 ∷ 101 ∷ [])
   pub boolean_to_integer : cast_to DataType.Integer (Boolean true) ≡ Integer (pos 1)
   pub long_to_boolean : cast_to DataType.Boolean (Long (pos 0)) ≡ Boolean false
-  pub text_to_number : cast_to DataType.Integer (Text (49 ∷ [])) ≡ Null
   pub null_to_text : cast_to DataType.Text Null ≡ Null
   pub integer_to_boolean : cast_to DataType.Boolean (Integer (pos 2)) ≡ Boolean true
   pub zero_to_boolean : cast_to DataType.Boolean (Integer (pos 0)) ≡ Boolean false

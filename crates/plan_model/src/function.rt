@@ -3,7 +3,7 @@ ghost use Rattle.std.specs.Prelude.{◌≡◌, IfOk};
 use cn_base::{Copied, OutOfMemory};
 use std::alloc::Global;
 
-/// A built-in function of Spark SQL. Two spellings of one function are one variant.
+/// A built-in function, named as in Spark SQL. Two spellings of one function are one variant.
 #[derive(Clone, Copy, Debug, PartialEq, Eq)]
 pub enum Function {
     /// `+`

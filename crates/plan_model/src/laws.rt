@@ -66,7 +66,7 @@ pub fn extremes_are_reached()
     values_are_ordered();
 }
 
-/// Law: a cast gives a value of its type, or null, and changes no value that has the type.
+/// Law: a cast gives a value of its type, or null, and changes no value that has the type; where there is such a cast it is null of null alone.
 pub fn casts_give_the_type()
     ensures { CastsGiveTheType }
 {}
@@ -164,7 +164,7 @@ pub fn nulls_are_told()
     ensures { NullsAreTold }
 {}
 
-/// Law: values of Spark SQL's functions, casts and aggregates, written out.
+/// Law: values of functions, casts and aggregates, written out.
 pub fn worked_rows_hold()
     ensures numbers { WorkedNumbers }
     ensures truths { WorkedTruths }

@@ -6,6 +6,7 @@ ghost use Rattle.plan_model.specs.RelationLaws.{PermutationsHaveTheSameCounts, J
 ghost use Rattle.plan_model.specs.SelectionLaws.{SelectionsKeepPlaces, SetOperationsHoldTheirRows, SortsGoByTheFirstKey};
 ghost use Rattle.plan_model.specs.ValueRanges.{RowsAreInRange};
 ghost use Rattle.plan_model.specs.WorkedPlans.{WorkedPlans};
+ghost use Rattle.plan_model.specs.WorkedRelations.{WorkedJoins, WorkedSorts, WorkedSlices};
 
 /// Law: the outcomes and the types of each kind of relation, and whether it is well formed, by those of its inputs; and whether each form
 /// of expression is well formed, by its parts.
@@ -49,7 +50,8 @@ pub fn permutations_have_the_same_counts()
     ensures { PermutationsHaveTheSameCounts }
 {}
 
-/// Law: an inner join whose condition is never true has no row; a semi and an anti join split the left rows; a cross join has each pair.
+/// Law: an inner join whose condition is never true of rows that fit and are in range has no row; a semi and an anti join split the left
+/// rows; a cross join of which each pair matches has each pair.
 pub fn joins_match()
     ensures { JoinsMatch }
 {}
@@ -129,5 +131,8 @@ pub fn sorts_go_by_the_first_key()
 
 /// Law: small plans and the outcomes that they allow, written out.
 pub fn worked_plans_hold()
-    ensures { WorkedPlans }
+    ensures plans { WorkedPlans }
+    ensures joins { WorkedJoins }
+    ensures sorts { WorkedSorts }
+    ensures slices { WorkedSlices }
 {}
