@@ -1,5 +1,6 @@
 -- The batches of a stream, one after another.
-use Rattle.std.proofs.Common.{◌≡◌, ℕ, zero, suc, ◌+◌, ◌-◌, ◌<◌, ◌≤◌, Bool, true, false, cond, eqb, Option, None, Some, Result, Ok, Err, List, [], ◌∷◌, ◌++◌, length, arith, refl, ap, ◌∙◌, sym}
+use Rattle.std.proofs.Common.{◌≡◌, ℕ, zero, suc, ◌+◌, ◌-◌, ◌*◌, ◌<◌, ◌≤◌, Bool, true, false, cond, eqb, Option, None, Some, Result, Ok, Err, List, [], ◌∷◌, ◌++◌, length, arith, refl, ap, ◌∙◌, sym, length-append}
+use native.Mathlib.Nat.{mul-add}
 use Rattle.std.specs.List.{flat_map}
 use Rattle.std.proofs.lemmas.List.{append_assoc, append-nil}
 use Rattle.cn_types.specs.declared.row.Row.{Row}
@@ -141,3 +142,10 @@ rows_more bytes schema at rows found part e = rw (batches_more bytes schema at p
         let n : found + suc (length more) ≡ (found + 1) + length more = omega arith in
         rw (n, append_assoc rows (rows_of part.columns part.count) (flat_map (λ rows. rows) more)) refl
     next (Err f) = refl
+
+-- what is left after the cells of more rows
+pub cells_more : (rows added : List Row) (w count now before room : ℕ) → length added ≡ count → now + w * count ≡ before → before + w * length rows ≡ room → now + w * length (rows ++ added) ≡ room
+cells_more rows added w count now before room l n b =
+    let long : length (rows ++ added) ≡ length rows + count = length-append rows added ∙ ap (λ (k : ℕ). length rows + k) l in
+    let more : w * length (rows ++ added) ≡ w * length rows + w * count = ap (λ (k : ℕ). w * k) long ∙ mul-add w (length rows) count in
+    omega (arith, n, b, more)

@@ -6,3 +6,4 @@ pub mod Laws
 pub mod Faults
 pub mod ColumnFaults
 pub mod MessageFaults
+pub mod Room

@@ -13,6 +13,7 @@ mod numbers;
 mod pair;
 mod part;
 mod reader;
+mod room;
 mod rows;
 mod schema;
 #[cfg(test)]

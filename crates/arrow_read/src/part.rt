@@ -1,11 +1,13 @@
-ghost use Rattle.std.specs.Prelude.{◌≡◌, ◌≢◌, ◌+◌, ◌<◌, ◌≤◌, length, Ok, Err, IfOk, IfErr, IfSome};
+ghost use Rattle.std.specs.Prelude.{◌≡◌, ◌≢◌, ◌+◌, ◌*◌, ◌<◌, ◌≤◌, length, Ok, Err, IfOk, IfErr, IfSome};
 ghost use Rattle.arrow_read.specs.Reading.{if_plain as said_plain, columns_in as said_columns, batch_at as said_batch, next_batch as said_next};
+ghost use Rattle.arrow_read.specs.Room.{width};
 
 use crate::ArrowFault;
 use crate::batch::{BatchTables, later_header};
 use crate::column::{Column, buffer_count, column_in};
 use crate::head::head_in;
 use crate::message::{body_at, metadata_at, metadata_size};
+use crate::room::{Room, if_counted, left};
 use cn_base::List;
 use cn_types::{Field, Schema};
 use std::alloc::Global;
@@ -31,20 +33,28 @@ fn if_plain<'a>(header: Option<BatchTables<'a>>) -> Result<BatchTables<'a>, Arro
     Ok(batch)
 }
 
-/// The columns of these fields, from the left. The error is the first fault of the first column that has one.
+/// The columns of these fields, from the left, if there is room for their cells and texts: columns may share buffers, which are then looked
+/// through for each of them. The error is the first fault of the first column that has one.
 fn columns_in<'a>(
     alloc: Global,
     batch: &BatchTables,
     body: &'a [u8],
     fields: &[Field],
+    room: Room,
 ) -> Result<List<Column<'a>>, ArrowFault>
+    ensures cells { IfOk result (λ _. length fields.now * batch.now.count ≤ room.cells) }
     ensures ok { IfOk result (λ columns. said_columns batch.now body.now 0 0 fields.now ≡ Ok columns) }
     ensures refused { IfErr result (λ e. e ≢ ArrowFault.OutOfMemory → said_columns batch.now body.now 0 0 fields.now ≡ Err e) }
 {
     let mut columns = List::new(alloc);
     let mut first = 0;
+    let mut cells = room.cells;
+    let mut texts = room.texts;
     for (place, field) in fields.iter().enumerate() {
-        columns.push(column_in(batch, body, place, first, field.kind)?)?;
+        let column = column_in(batch, body, place, first, field.kind)?;
+        cells = left(cells, batch.count)?;
+        texts = left(texts, column.texts.len())?;
+        columns.push(column)?;
         first += 1 + buffer_count(field.kind);
     }
     Ok(columns)
@@ -58,8 +68,10 @@ fn batch_at<'a>(
     schema: &Schema,
     at: usize,
     size: usize,
+    room: Room,
 ) -> Result<Part<'a>, ArrowFault>
     requires { at + 8 + size ≤ length bytes.now }
+    ensures cells { IfOk result (λ part. width schema.now * part.count ≤ room.cells) }
     ensures ok { IfOk result (λ part. said_batch bytes.now schema.now at size ≡ Ok part) }
     ensures next { IfOk result (λ part. at < part.next) }
     ensures within { IfOk result (λ part. part.next ≤ length bytes.now) }
@@ -73,7 +85,8 @@ fn batch_at<'a>(
     };
     let batch = if_plain(header)?;
     let body = body_at(bytes, at + 8 + size, head.body)?;
-    let columns = columns_in(alloc, &batch, body, schema.0.as_slice())?;
+    let columns = columns_in(alloc, &batch, body, schema.0.as_slice(), room)?;
+    if_counted(room.cells, schema, batch.count)?;
     Ok(Part {
         columns,
         count: batch.count,
@@ -88,8 +101,10 @@ pub(crate) fn next_batch<'a>(
     bytes: &'a [u8],
     schema: &Schema,
     at: usize,
+    room: Room,
 ) -> Result<Option<Part<'a>>, ArrowFault>
     requires { at ≤ length bytes.now }
+    ensures cells { IfOk result (λ found. IfSome found (λ part. width schema.now * part.count ≤ room.cells)) }
     ensures ok { IfOk result (λ part. said_next bytes.now schema.now at ≡ Ok part) }
     ensures next { IfOk result (λ found. IfSome found (λ part. at < part.next)) }
     ensures within { IfOk result (λ found. IfSome found (λ part. part.next ≤ length bytes.now)) }
@@ -102,5 +117,5 @@ pub(crate) fn next_batch<'a>(
     if size == 0 {
         return Ok(None);
     }
-    Ok(Some(batch_at(alloc, bytes, schema, at, size)?))
+    Ok(Some(batch_at(alloc, bytes, schema, at, size, room)?))
 }

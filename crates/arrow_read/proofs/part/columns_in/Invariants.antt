@@ -1,8 +1,11 @@
 -- the columns so far, and then the others
-use Rattle.std.proofs.Common.{◌≡◌, drop}
+use Rattle.std.proofs.Common.{◌≡◌, ◌+◌, ◌*◌, drop}
 use Rattle.arrow_read.specs.Reading.{columns_in}
 use Rattle.arrow_read.proofs.ColumnLoop.{after}
 use Rattle.arrow_read.proofs.part.columns_in.Given as goal
 
 abbrev pub invariant-loop-place : goal.invariant-loop-place
-invariant-loop-place l = after l.columns (columns_in l.batch l.body l.place l.first (drop l.place l.fields)) ≡ columns_in l.batch l.body 0 0 l.fields
+invariant-loop-place l = record {
+  columns : after l.columns (columns_in l.batch l.body l.place l.first (drop l.place l.fields)) ≡ columns_in l.batch l.body 0 0 l.fields;
+  cells : l.cells + l.place * l.batch.count ≡ l.fn.room.cells;
+}
