@@ -1,8 +1,9 @@
 -- What a chain of steps says of each step, and that equal answers hold the same.
 use Rattle.std.proofs.Common.{◌≡◌, ℕ, Bool, true, false, cond, Option, None, Some, Result, Ok, Err, arith, refl, ap, ◌∙◌}
-use Rattle.std.specs.Prelude.{ℤ, pos, negsuc, unwrap_or, nat_abs, int_lt}
+use Rattle.std.specs.Prelude.{ℤ, pos, negsuc, ◌<ℤ◌, unwrap_or, nat_abs, int_lt}
 use Rattle.std.specs.Result.{result_ok}
 use Rattle.std.specs.Ordering.{int_eq}
+use Rattle.std.proofs.lemmas.Int.{ints}
 use Rattle.std.proofs.lemmas.Bool.Decides.{Decides-int_eq}
 use Rattle.flat_tables.specs.declared.fault.FlatFault.{FlatFault}
 use Rattle.arrow_ipc.specs.Holds.{or_absent}
@@ -52,6 +53,10 @@ not_negative_is (negsuc m) n h = by_test (int_lt (negsuc m) (pos 0)) refl h
 
 pub is_not_negative : (n : ℕ) → not_negative (pos n) ≡ Some n
 is_not_negative n = grind arith
+
+pub negative_is : (z : ℤ) → not_negative z ≡ None → z <ℤ pos 0
+negative_is (pos n) h = absurd (let e = is_not_negative n in cc)
+negative_is (negsuc n) h = omega (arith, ints)
 
 pub same_int : (x y : ℤ) → int_eq x y ≡ true → x ≡ y
 same_int x y h = grind (arith, Decides-int_eq)

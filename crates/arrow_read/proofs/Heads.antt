@@ -28,7 +28,7 @@ version_of z h = by_three (int_eq z (pos 3)) refl h
     by_three true e k = inl (same_int z (pos 3) e)
     by_three false e k = inr (same_int z (pos 4) k)
 
-of_version : (z : ℤ) → (z ≡ pos 3) ⊎ (z ≡ pos 4) → is_version z ≡ true
+pub of_version : (z : ℤ) → (z ≡ pos 3) ⊎ (z ≡ pos 4) → is_version z ≡ true
 of_version z (inl e) = rw e refl
 of_version z (inr e) = rw e refl
 

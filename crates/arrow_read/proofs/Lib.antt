@@ -9,6 +9,7 @@ pub mod Texts
 pub mod FieldLaws
 pub mod Presence
 pub mod SchemaLaws
+pub mod BadTableLaws
 pub mod MessageLaws
 pub mod BufferLaws
 pub mod ColumnLaws

@@ -18,8 +18,9 @@ use Rattle.arrow_read.specs.Reading.{◌>>=◌, or_fault, begins_as_message, if_
 use Rattle.arrow_read.specs.ColumnFaults.{ColumnsFaulty}
 use Rattle.arrow_read.specs.MessageFaults.{BeginsAsMessage, MetadataAt, MetadataFaulty, FirstTables, FirstFaulty, LaterTables, LaterFaulty, MessageFaultsAreFirst}
 use Rattle.arrow_read.specs.MessageFaults.{other_mark, negative_size, no_size, cut, first_metadata, first_ended, first_headless, first_without_schema, first_of_other_header, first_of_other_type, first_cut, later_metadata, later_headless, later_without_batch, later_of_other_header, later_compressed, later_cut, later_columns}
-use Rattle.arrow_read.proofs.Chains.{same_Err, fault_ok, ok_of, not_negative_is, is_not_negative}
+use Rattle.arrow_read.proofs.Chains.{same_Err, fault_ok, ok_of, not_negative_is, is_not_negative, negative_is}
 use Rattle.arrow_read.proofs.SchemaLaws.{supported}
+use Rattle.arrow_read.proofs.BadTableLaws.{head_bad, bad_head, first_bad, bad_first, later_bad, bad_later}
 use Rattle.arrow_read.proofs.MessageLaws.{is_mark_byte, metadata_is, is_metadata, body_stands}
 use Rattle.arrow_read.proofs.BufferLaws.{i32_inside}
 use Rattle.arrow_read.proofs.BatchLoop.{plain_is}
@@ -62,10 +63,6 @@ no_number b at h = elim (cases_lt (length b) (at + 4)) [
 number_none : (b : List ℕ) (at : ℕ) → length b < at + 4 → result_ok (i32_at b at) ≡ None
 unfolding i32_at
 number_none b at l = rw (lt-leb (at + 4) (length b) l) refl
-
-negative_is : (z : ℤ) → not_negative z ≡ None → z <ℤ pos 0
-negative_is (pos n) h = absurd (let e = is_not_negative n in cc)
-negative_is (negsuc n) h = omega (arith, ints)
 
 is_negative : (z : ℤ) → z <ℤ pos 0 → not_negative z ≡ None
 is_negative (pos n) h = absurd (omega (arith, ints))
@@ -168,12 +165,12 @@ first_faulty bytes f h =
                 let (found, em, h2) = more1 in
                 let ne : size ≢ 0 = eqb-false size 0 (more_is size found em) in
                 elim (bind_err (or_fault (BadTable 0) (head_in (metadata_at bytes 0 size))) _ f h2) [
-                  | inl e ↦ let z = fault_err (BadTable 0) (head_in (metadata_at bytes 0 size)) f e in subst (FirstFaulty bytes) z.1 (first_headless size m ne z.0)
+                  | inl e ↦ let z = fault_err (BadTable 0) (head_in (metadata_at bytes 0 size)) f e in subst (FirstFaulty bytes) z.1 (first_headless size m ne (head_bad (metadata_at bytes 0 size) z.0))
                   | inr more2 ↦
                       let (head, eh, h3) = more2 in
                       let head_is : head_in (metadata_at bytes 0 size) ≡ Some head = fault_ok (BadTable 0) (head_in (metadata_at bytes 0 size)) head eh in
                       elim (bind_err (or_fault (BadTable 0) (first_header head)) _ f h3) [
-                        | inl e ↦ let z = fault_err (BadTable 0) (first_header head) f e in subst (FirstFaulty bytes) z.1 (first_without_schema size head m ne head_is z.0)
+                        | inl e ↦ let z = fault_err (BadTable 0) (first_header head) f e in subst (FirstFaulty bytes) z.1 (first_without_schema size head m ne head_is (first_bad head z.0))
                         | inr more3 ↦
                             let (fields, ef, h4) = more3 in
                             let t : FirstTables bytes size head fields = record { metadata = m; not_end = ne; head_is = head_is; fields_are = fault_ok (BadTable 0) (first_header head) fields ef } in
@@ -198,8 +195,8 @@ first_fault : (bytes : List ℕ) {f : ArrowFault} → FirstFaulty bytes f → fi
 unfolding first_message
 first_fault bytes (first_metadata f m) = rw (metadata_fault bytes 0 m) refl
 first_fault bytes (first_ended m) = rw (is_metadata bytes 0 0 m) refl
-first_fault bytes (first_headless size m ne h) = rw (is_metadata bytes 0 size m, ne_eqb size 0 ne) (rw h refl)
-first_fault bytes (first_without_schema size head m ne h k) = rw (is_metadata bytes 0 size m, ne_eqb size 0 ne) (rw (h, k) refl)
+first_fault bytes (first_headless size m ne h) = rw (is_metadata bytes 0 size m, ne_eqb size 0 ne) (rw (bad_head (metadata_at bytes 0 size) h) refl)
+first_fault bytes (first_without_schema size head m ne h k) = rw (is_metadata bytes 0 size m, ne_eqb size 0 ne) (rw (h, bad_first head k) refl)
 first_fault bytes (first_of_other_header size head t) = rw (is_metadata bytes 0 size t.metadata, ne_eqb size 0 t.not_end) (rw (t.head_is, t.fields_are) refl)
 first_fault bytes (first_of_other_type size head fields place t e) = rw (is_metadata bytes 0 size t.metadata, ne_eqb size 0 t.not_end) (rw (t.head_is, t.fields_are) (rw e refl))
 first_fault bytes (first_cut size head fields t e l) = rw (is_metadata bytes 0 size t.metadata, ne_eqb size 0 t.not_end) (rw (t.head_is, t.fields_are) (rw (e, lt-leb (8 + size + head.body) (length bytes) l) refl))
@@ -218,12 +215,12 @@ batch_faulty : (bytes : List ℕ) (schema : Schema) (at size : ℕ) (f : ArrowFa
 unfolding batch_at
 batch_faulty bytes schema at size f over m ne h =
     elim (bind_err (or_fault (BadTable at) (head_in (metadata_at bytes at size))) _ f h) [
-      | inl e ↦ let z = fault_err (BadTable at) (head_in (metadata_at bytes at size)) f e in subst (LaterFaulty bytes schema at) z.1 (later_headless size over m ne z.0)
+      | inl e ↦ let z = fault_err (BadTable at) (head_in (metadata_at bytes at size)) f e in subst (LaterFaulty bytes schema at) z.1 (later_headless size over m ne (head_bad (metadata_at bytes at size) z.0))
       | inr more ↦
           let (head, eh, h1) = more in
           let head_is : head_in (metadata_at bytes at size) ≡ Some head = fault_ok (BadTable at) (head_in (metadata_at bytes at size)) head eh in
           elim (bind_err (or_fault (BadTable at) (later_header head)) _ f h1) [
-            | inl e ↦ let z = fault_err (BadTable at) (later_header head) f e in subst (LaterFaulty bytes schema at) z.1 (later_without_batch size head over m ne head_is z.0)
+            | inl e ↦ let z = fault_err (BadTable at) (later_header head) f e in subst (LaterFaulty bytes schema at) z.1 (later_without_batch size head over m ne head_is (later_bad head z.0))
             | inr more1 ↦
                 let (header, ek, h2) = more1 in
                 let t : LaterTables bytes at size head header = record { not_over = over; metadata = m; not_end = ne; head_is = head_is; batch_is = fault_ok (BadTable at) (later_header head) header ek } in
@@ -319,8 +316,8 @@ column_fault bytes schema at size head batch f h k c l e =
 
 later_fault : (bytes : List ℕ) (schema : Schema) (at : ℕ) {f : ArrowFault} → LaterFaulty bytes schema at f → next_batch bytes schema at ≡ Err f
 later_fault bytes schema at (later_metadata f over m) = metadata_missing bytes schema at f over (metadata_fault bytes at m)
-later_fault bytes schema at (later_headless size over m ne h) = batch_fault bytes schema at size (BadTable at) over m ne (head_fault bytes schema at size h)
-later_fault bytes schema at (later_without_batch size head over m ne h k) = batch_fault bytes schema at size (BadTable at) over m ne (header_fault bytes schema at size head h k)
+later_fault bytes schema at (later_headless size over m ne h) = batch_fault bytes schema at size (BadTable at) over m ne (head_fault bytes schema at size (bad_head (metadata_at bytes at size) h))
+later_fault bytes schema at (later_without_batch size head over m ne h k) = batch_fault bytes schema at size (BadTable at) over m ne (header_fault bytes schema at size head h (bad_later head k))
 later_fault bytes schema at (later_of_other_header size head t) = batch_fault bytes schema at size (UnsupportedType 0) t.not_over t.metadata t.not_end (other_fault bytes schema at size head t.head_is t.batch_is)
 later_fault bytes schema at (later_compressed size head batch t c) = batch_fault bytes schema at size Compressed t.not_over t.metadata t.not_end (compressed_fault bytes schema at size head batch t.head_is t.batch_is c)
 later_fault bytes schema at (later_cut size head batch t c l) = batch_fault bytes schema at size Truncated t.not_over t.metadata t.not_end (cut_fault bytes schema at size head batch t.head_is t.batch_is c l)

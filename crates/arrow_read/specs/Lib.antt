@@ -7,3 +7,4 @@ pub mod Faults
 pub mod ColumnFaults
 pub mod MessageFaults
 pub mod Room
+pub mod BadTables

@@ -9,6 +9,7 @@ use Rattle.arrow_read.specs.declared.head.Head.{Head}
 use Rattle.arrow_read.specs.declared.batch.BatchTables.{BatchTables}
 use Rattle.arrow_read.specs.Tables.{FieldView, head_in, first_header, later_header}
 use Rattle.arrow_read.specs.Reading.{metadata_at, unsupported, first_message, next_batch}
+use Rattle.arrow_read.specs.BadTables.{HeadBad, FirstBad, LaterBad}
 use Rattle.arrow_read.specs.ColumnFaults.{ColumnsFaulty}
 
 -- ---- the metadata
@@ -42,8 +43,8 @@ pub record FirstTables (bytes : List ℕ) (size : ℕ) (head : Head) (fields : O
 pub data FirstFaulty (bytes : List ℕ) : ArrowFault → Type 0 where
   first_metadata : (fault : ArrowFault) → MetadataFaulty bytes 0 fault → FirstFaulty bytes fault
   first_ended : MetadataAt bytes 0 0 → FirstFaulty bytes Truncated
-  first_headless : (size : ℕ) → MetadataAt bytes 0 size → size ≢ 0 → head_in (metadata_at bytes 0 size) ≡ None → FirstFaulty bytes (BadTable 0)
-  first_without_schema : (size : ℕ) (head : Head) → MetadataAt bytes 0 size → size ≢ 0 → head_in (metadata_at bytes 0 size) ≡ Some head → first_header head ≡ None → FirstFaulty bytes (BadTable 0)
+  first_headless : (size : ℕ) → MetadataAt bytes 0 size → size ≢ 0 → HeadBad (metadata_at bytes 0 size) → FirstFaulty bytes (BadTable 0)
+  first_without_schema : (size : ℕ) (head : Head) → MetadataAt bytes 0 size → size ≢ 0 → head_in (metadata_at bytes 0 size) ≡ Some head → FirstBad head → FirstFaulty bytes (BadTable 0)
   first_of_other_header : (size : ℕ) (head : Head) → FirstTables bytes size head None → FirstFaulty bytes (UnsupportedType 0)
   first_of_other_type : (size : ℕ) (head : Head) (fields : List FieldView) (place : ℕ) → FirstTables bytes size head (Some fields) → unsupported fields ≡ Some place → FirstFaulty bytes (UnsupportedType place)
   first_cut : (size : ℕ) (head : Head) (fields : List FieldView) → FirstTables bytes size head (Some fields) → unsupported fields ≡ None → length bytes < 8 + size + head.body → FirstFaulty bytes Truncated
@@ -60,8 +61,8 @@ pub record LaterTables (bytes : List ℕ) (at size : ℕ) (head : Head) (batch :
 
 pub data LaterFaulty (bytes : List ℕ) (schema : Schema) (at : ℕ) : ArrowFault → Type 0 where
   later_metadata : (fault : ArrowFault) → at ≢ length bytes → MetadataFaulty bytes at fault → LaterFaulty bytes schema at fault
-  later_headless : (size : ℕ) → at ≢ length bytes → MetadataAt bytes at size → size ≢ 0 → head_in (metadata_at bytes at size) ≡ None → LaterFaulty bytes schema at (BadTable at)
-  later_without_batch : (size : ℕ) (head : Head) → at ≢ length bytes → MetadataAt bytes at size → size ≢ 0 → head_in (metadata_at bytes at size) ≡ Some head → later_header head ≡ None → LaterFaulty bytes schema at (BadTable at)
+  later_headless : (size : ℕ) → at ≢ length bytes → MetadataAt bytes at size → size ≢ 0 → HeadBad (metadata_at bytes at size) → LaterFaulty bytes schema at (BadTable at)
+  later_without_batch : (size : ℕ) (head : Head) → at ≢ length bytes → MetadataAt bytes at size → size ≢ 0 → head_in (metadata_at bytes at size) ≡ Some head → LaterBad head → LaterFaulty bytes schema at (BadTable at)
   later_of_other_header : (size : ℕ) (head : Head) → LaterTables bytes at size head None → LaterFaulty bytes schema at (UnsupportedType 0)
   later_compressed : (size : ℕ) (head : Head) (batch : BatchTables) → LaterTables bytes at size head (Some batch) → batch.compressed ≡ true → LaterFaulty bytes schema at Compressed
   later_cut : (size : ℕ) (head : Head) (batch : BatchTables) → LaterTables bytes at size head (Some batch) → batch.compressed ≡ false → length bytes < at + 8 + size + head.body → LaterFaulty bytes schema at Truncated

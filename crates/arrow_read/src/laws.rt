@@ -1,3 +1,4 @@
+ghost use Rattle.arrow_read.specs.BadTables.{BadTablesAreTold};
 ghost use Rattle.arrow_read.specs.ColumnFaults.{ColumnFaultsAreFirst};
 ghost use Rattle.arrow_read.specs.Faults.{FaultsAreFirst};
 ghost use Rattle.arrow_read.specs.MessageFaults.{MessageFaultsAreFirst};
@@ -30,6 +31,12 @@ pub fn faults_are_first()
 /// buffers aren't sound, or else its first row whose text isn't UTF-8, or whose date is out of range. It does nothing.
 pub fn column_faults_are_first()
     ensures { ColumnFaultsAreFirst }
+{}
+
+/// Law: a message's tables can't be read exactly where one of the format's rows says why, and a field that is read is of another type exactly
+/// where one of its rows says so. It does nothing.
+pub fn bad_tables_are_told()
+    ensures { BadTablesAreTold }
 {}
 
 /// Law: the first message, and each later one, has the fault of the first row of the format's tests that meets it: no mark or a negative

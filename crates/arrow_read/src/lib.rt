@@ -23,8 +23,8 @@ mod want;
 
 pub use fault::ArrowFault;
 pub use laws::{
-    column_faults_are_first, faults_are_first, message_faults_are_first, streams_are_read,
-    streams_hold_one, written_streams_are_read,
+    bad_tables_are_told, column_faults_are_first, faults_are_first, message_faults_are_first,
+    streams_are_read, streams_hold_one, written_streams_are_read,
 };
 pub use reader::read_stream;
 pub use want::Batches;

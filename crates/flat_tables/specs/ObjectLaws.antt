@@ -20,7 +20,7 @@ slots_in (O.Tables tables) = []
 slots_in (O.Pairs pairs) = []
 slots_in (O.Text text) = []
 
-slots_of-map : {A B : Type 0} (f : A → B) (slots : List (FlatSlot A)) → slots_in (map-FlatObject A B f (O.Table slots)) ≡ map (slot_map f) slots
+pub slots_of-map : {A B : Type 0} (f : A → B) (slots : List (FlatSlot A)) → slots_in (map-FlatObject A B f (O.Table slots)) ≡ map (slot_map f) slots
 unfolding slots_in
 slots_of-map f [] = refl
 slots_of-map f (Absent ∷ slots) = ap (λ ss. Absent ∷ ss) (slots_of-map f slots)
