@@ -9,3 +9,4 @@ pub mod WrittenSchema
 pub mod CellsStand
 pub mod FoundBatch
 pub mod WrittenBatch
+pub mod Aligned

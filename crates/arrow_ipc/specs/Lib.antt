@@ -3,3 +3,4 @@ pub mod Columns
 pub mod Messages
 pub mod Stream
 pub mod Holds
+pub mod Alignment

@@ -12,5 +12,5 @@ mod tests;
 mod write;
 
 pub use fit::can_be_written;
-pub use laws::written_streams_hold;
+pub use laws::{written_streams_are_aligned, written_streams_hold};
 pub use write::write_stream;

@@ -1,7 +1,6 @@
 -- What is built is aligned.
-use Rattle.std.proofs.Common.{◌≡◌, ℕ, ◌+◌, ◌%◌, Bool, true, false, List, [], ◌∷◌, ◌++◌, length, map, arith, refl, ap, ◌∙◌, subst, sym, length-append}
-use Rattle.std.specs.List.{AllByRecursion, sum_by}
-use Rattle.std.specs.Int.{next_multiple_of}
+use Rattle.std.proofs.Common.{◌≡◌, ℕ, ◌+◌, ◌%◌, false, List, [], ◌∷◌, map, arith, refl, ap, ◌∙◌, subst, sym}
+use Rattle.std.specs.List.{sum_by}
 use Rattle.std.proofs.lemmas.List.Sums.{sum_by-cons}
 use Rattle.flat_tables.specs.declared.object.FlatObject.{FlatObject}
 use Rattle.flat_tables.specs.declared.object.FlatPair.{FlatPair}
@@ -12,9 +11,9 @@ use Rattle.flat_tables.specs.declared.object.FlatObject.TheOpen as O
 use Rattle.flat_tables.specs.declared.object.FlatObject.TheOpen.{FlatObject-F}
 use Rattle.flat_tables.specs.declared.object.FlatObject.TheViews.{roll-FlatObject}
 use Rattle.flat_tables.specs.declared.object.FlatObject.TheFolds.{map-FlatObject, ind-FlatObject}
-use Rattle.flat_tables.specs.Layout.{is_absent, size_of, place_of, block, layout, slot_map, used, table_size, table_block, tables_block, pairs_block, text_block}
+use Rattle.flat_tables.specs.Layout.{is_absent, size_of, place_of, block, slot_map, table_block, tables_block, pairs_block, text_block}
 use Rattle.flat_tables.specs.ObjectSizes.{size, size_named}
-use Rattle.flat_tables.specs.ObjectLaws.{block-Table, block-Tables, block-Pairs, block-Text, slots_of-map}
+use Rattle.flat_tables.specs.ObjectLaws.{block-Table, block-Tables, block-Pairs, block-Text, slots_in, slots_of-map}
 use Rattle.flat_tables.specs.Alignment.{Is8, LayoutsAreAligned}
 use Rattle.flat_tables.proofs.Sizes.{length-vtable}
 use Rattle.flat_tables.proofs.Bounds.{sizes_add_up}
@@ -51,6 +50,7 @@ slots_sum (slot ∷ slots) =
     rw e (omega (arith, named_aligned slot, slots_sum slots))
 
 at_layer : (y : FlatObject-F With) → IsAligned (roll-FlatObject (map-FlatObject With FlatObject bare y))
+unfolding slots_in
 at_layer (O.Table slots) =
     let here : roll-FlatObject (map-FlatObject With FlatObject bare (O.Table slots)) ≡ V.Table (map (slot_map bare) slots)
     = ap (λ (ss : List (FlatSlot FlatObject)). roll-FlatObject (O.Table ss)) (slots_of-map bare slots) ∙ V.rolls-Table (map (slot_map bare) slots) in
@@ -65,42 +65,42 @@ at_layer (O.Tables tables) = subst IsAligned (sym (V.rolls-Tables (map bare tabl
 at_layer (O.Pairs pairs) = subst IsAligned (sym (V.rolls-Pairs pairs)) (rw (sizes_add_up.pairs pairs) (omega arith))
 at_layer (O.Text text) = subst IsAligned (sym (V.rolls-Text text)) (rw (sizes_add_up.text text) (omega arith))
 
-objects : (object : FlatObject) → IsAligned object
-objects = ind-FlatObject IsAligned (λ x y is. subst (λ (z : FlatObject-F FlatObject). IsAligned (roll-FlatObject z)) is (at_layer y))
+objects_aligned : (object : FlatObject) → IsAligned object
+objects_aligned = ind-FlatObject IsAligned (λ x y is. subst (λ (z : FlatObject-F FlatObject). IsAligned (roll-FlatObject z)) is (at_layer y))
 
 -- ---- fields and items
 
-fields : (end : ℕ) (slot : FlatSlot FlatObject) → is_absent slot ≡ false → place_of end slot % size_of slot ≡ 0
-fields end Absent h = absurd (cc)
-fields end (U8 n) h = omega arith
-fields end (I16 z) h = omega arith
-fields end (I32 z) h = omega arith
-fields end (I64 z) h = omega arith
-fields end (Object o) h = omega arith
+field_places : (end : ℕ) (slot : FlatSlot FlatObject) → is_absent slot ≡ false → place_of end slot % size_of slot ≡ 0
+field_places end Absent h = absurd (cc)
+field_places end (U8 n) h = omega arith
+field_places end (I16 z) h = omega arith
+field_places end (I32 z) h = omega arith
+field_places end (I64 z) h = omega arith
+field_places end (Object o) h = omega arith
 
-tables : (slots : List (FlatSlot FlatObject)) → Is8 (block (V.Table slots)).entry
+table_places : (slots : List (FlatSlot FlatObject)) → Is8 (block (V.Table slots)).entry
 unfolding table_block
-tables slots = rw (block-Table slots, length-vtable (map (slot_map block) slots)) (omega arith)
+table_places slots = rw (block-Table slots, length-vtable (map (slot_map block) slots)) (omega arith)
 
-offsets : (tables : List FlatObject) → Is8 ((block (V.Tables tables)).entry + 4)
+offset_places : (tables : List FlatObject) → Is8 ((block (V.Tables tables)).entry + 4)
 unfolding tables_block
-offsets tables = rw (block-Tables tables) refl
+offset_places tables = rw (block-Tables tables) refl
 
-pairs : (pairs : List FlatPair) → Is8 ((block (V.Pairs pairs)).entry + 4)
+pair_places : (ps : List FlatPair) → Is8 ((block (V.Pairs ps)).entry + 4)
 unfolding pairs_block
-pairs pairs = rw (block-Pairs pairs) refl
+pair_places ps = rw (block-Pairs ps) refl
 
-texts : (text : List ℕ) → Is8 ((block (V.Text text)).entry + 4)
+text_places : (text : List ℕ) → Is8 ((block (V.Text text)).entry + 4)
 unfolding text_block
-texts text = rw (block-Text text) refl
+text_places text = rw (block-Text text) refl
 
 pub layouts_are_aligned : LayoutsAreAligned
 layouts_are_aligned = record {
-  objects = objects;
-  buffers = λ object. omega (arith, objects object, sizes_add_up.whole object);
-  tables = tables;
-  fields = fields;
-  offsets = offsets;
-  pairs = pairs;
-  texts = texts;
+  objects = objects_aligned;
+  buffers = λ object. omega (arith, objects_aligned object, sizes_add_up.whole object);
+  tables = table_places;
+  fields = field_places;
+  offsets = offset_places;
+  pairs = pair_places;
+  texts = text_places;
 }

@@ -10,3 +10,4 @@ pub mod TableFound
 pub mod ReadBack
 pub mod Checking
 pub mod Bounds
+pub mod Aligned

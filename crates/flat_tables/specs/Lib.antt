@@ -7,3 +7,4 @@ pub mod Building
 pub mod Found
 pub mod ObjectLaws
 pub mod ObjectSizes
+pub mod Alignment

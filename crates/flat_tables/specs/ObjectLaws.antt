@@ -14,7 +14,7 @@ use Rattle.flat_tables.specs.declared.object.FlatObject.TheFolds.{fold-roll-Flat
 use Rattle.flat_tables.specs.Layout.{Block, block, block_step, table_block, tables_block, pairs_block, text_block, slot_map, IsTableLayer, IsTable, OnNamed, IsBuildable, Fits}
 use Rattle.flat_tables.specs.Found.{NumberFits, NumbersFit, HasFittingNumbers}
 
-slots_in : {A : Type 0} → FlatObject-F A → List (FlatSlot A)
+unfoldable pub slots_in : {A : Type 0} → FlatObject-F A → List (FlatSlot A)
 slots_in (O.Table slots) = slots
 slots_in (O.Tables tables) = []
 slots_in (O.Pairs pairs) = []

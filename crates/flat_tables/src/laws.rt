@@ -1,3 +1,4 @@
+ghost use Rattle.flat_tables.specs.Alignment.{LayoutsAreAligned};
 ghost use Rattle.flat_tables.specs.Fields.{FindsFields, FailsOutside};
 ghost use Rattle.flat_tables.specs.Found.{ReadsBack};
 ghost use Rattle.flat_tables.specs.ObjectSizes.{SizesAddUp};
@@ -18,4 +19,10 @@ pub fn built_objects_are_read()
 /// How many bytes an object takes in a flatbuffer: those of its own, and those of the objects that it names. It does nothing.
 pub fn object_sizes_add_up()
     ensures { SizesAddUp }
+{}
+
+/// How a flatbuffer is aligned: each object stands at a multiple of 8, each field of a table at a multiple of its own size, and the items of
+/// each vector at a multiple of 8. It does nothing.
+pub fn layouts_are_aligned()
+    ensures { LayoutsAreAligned }
 {}

@@ -17,7 +17,7 @@ mod vectors;
 
 pub use builder::Builder;
 pub use fault::FlatFault;
-pub use laws::{built_objects_are_read, object_sizes_add_up, slots_are_found};
+pub use laws::{built_objects_are_read, layouts_are_aligned, object_sizes_add_up, slots_are_found};
 pub use object::{FlatObject, FlatPair, FlatSlot};
 pub use table::Table;
 pub use vector::Vector;
