@@ -1,5 +1,5 @@
 -- Tables aren't read exactly where a row of the format's list says why.
-use Rattle.std.proofs.Common.{◌≡◌, ◌≢◌, ℕ, zero, suc, ◌+◌, ◌<◌, ◌≤◌, ◌⊎◌, inl, inr, Bool, true, false, not, cond, eqb, ◌||◌, List, [], ◌∷◌, Option, None, Some, Result, Ok, Err, arith, refl, ap, ◌∙◌, subst, sym}
+use Rattle.std.proofs.Common.{◌≡◌, ◌≢◌, ℕ, zero, suc, ◌+◌, ◌<◌, ◌≤◌, ◌⊎◌, inl, inr, Bool, true, false, not, cond, eqb, ◌||◌, List, [], Option, None, Some, Result, Ok, Err, arith, refl, ap, ◌∙◌, subst, sym}
 use Rattle.std.specs.Prelude.{ℤ, pos, ◌<ℤ◌, unwrap_or, is_some, option_map, IsUtf8, if◌then◌else◌, ◌==◌}
 use Rattle.std.specs.Result.{result_ok}
 use Rattle.std.specs.Ordering.{int_eq}
@@ -12,14 +12,15 @@ use Rattle.cn_types.specs.declared.schema.Field.{Field}
 use Rattle.flat_tables.specs.declared.fault.FlatFault.{FlatFault}
 use Rattle.flat_tables.specs.Views.{TableView, VectorView}
 use Rattle.flat_tables.specs.Reading.{field_at, named_table, u8_field, i16_field, i32_field, i64_field, table_field, text_field, vector_field, item_table}
-use Rattle.arrow_ipc.specs.Holds.{or_absent, IsVersion, IsOfType, HasNoItem, FieldHolds}
+use Rattle.arrow_ipc.specs.Holds.{or_absent, IsVersion, IsOfType, FieldHolds}
 use Rattle.arrow_read.specs.declared.head.Head.{Head}
 use Rattle.arrow_read.specs.declared.batch.BatchTables.{BatchTables}
 use Rattle.arrow_read.specs.Tables.{◌>>=◌, not_negative, utf8, presence, is_version, head_in, FieldView, int_kind, date_kind, plain_kind, kind_in, type_in, has_item, plain_type_in, field_in, fields_from, schema_in, first_header, batch_in, later_header}
-use Rattle.arrow_read.specs.BadTables.{IsOutside, MessageBad, HeadBad, TypeBad, FieldBad, SchemaBad, FirstBad, BatchBad, LaterBad, OtherKind, OfOtherType, BadTablesAreTold}
+use Rattle.arrow_read.specs.BadTables.{IsOutside, MessageBad, HeadBad, TypeBad, FieldBad, SchemaBad, FirstBad, BatchBad, LaterBad, FirstOther, LaterOther, OtherKind, OfOtherType, BadTablesAreTold}
 use Rattle.arrow_read.specs.BadTables.{version_outside, number_outside, header_outside, size_outside, no_header, negative_size, other_version, message_outside, bad_message}
 use Rattle.arrow_read.specs.BadTables.{width_outside, sign_outside, unit_outside, name_outside, nullable_outside, kind_outside, type_outside, dictionary_outside, children_outside, no_type, bad_type, no_text}
 use Rattle.arrow_read.specs.BadTables.{endianness_outside, fields_outside, no_fields, item_outside, bad_field, a_batch, bad_schema, length_outside, nodes_outside, buffers_outside, compression_outside, negative_length, a_schema, bad_batch}
+use Rattle.arrow_read.specs.BadTables.{other_header, big_endian}
 use Rattle.arrow_read.specs.BadTables.{unsigned, other_width, other_unit, other_number, has_dictionary, has_children, of_other_kind}
 use Rattle.arrow_read.proofs.Chains.{same_Ok, ok_of, or_absent_is, is_or_absent, not_negative_is, is_not_negative, negative_is, same_int}
 use Rattle.arrow_read.proofs.Steps.{bind_some}
@@ -502,6 +503,73 @@ no_kind K.Date number table h (other_width w e f a b) = omega (arith, h.is_date,
 no_kind K.Date number table h (other_unit u e f a) = a (same_Ok u (pos 0) (sym f ∙ h.unit_is))
 no_kind K.Date number table h (other_number a b c d) = d h.is_date
 
+-- ---- other headers
+
+-- the numbers of a schema that is read
+little : (t : TableView) (fields : List FieldView) → schema_in t ≡ Some (Some fields) → or_absent (pos 0) (i16_field t 0) ≡ Ok (pos 0)
+unfolding schema_in
+little t fields h =
+    let (endianness, ee, h1) = bind_some (result_ok (i16_field t 0)) _ (Some fields) h in
+    let (named, en, h2) = bind_some (result_ok (vector_field t 1 4)) _ (Some fields) h1 in
+    let (v, ev, h3) = bind_some named _ (Some fields) h2 in
+    let (found, ef, h4) = bind_some (fields_from v 0 v.count) _ (Some fields) h3 in
+    let z : ℤ = unwrap_or endianness (pos 0) in
+    or_absent_is (pos 0) (i16_field t 0) endianness (pos 0) (ok_of (i16_field t 0) endianness ee) (by_test z found (int_eq z (pos 0)) refl (same_Some _ (Some fields) h4))
+  where
+    by_test : (z : ℤ) (found : List FieldView) (b : Bool) → int_eq z (pos 0) ≡ b → cond b (Some found) None ≡ Some fields → z ≡ pos 0
+    by_test z found true e g = same_int z (pos 0) e
+    by_test z found false e g = absurd (cc)
+
+big : (t : TableView) → schema_in t ≡ Some None → (z : ℤ) × (or_absent (pos 0) (i16_field t 0) ≡ Ok z) × (z ≢ pos 0)
+unfolding schema_in
+big t h =
+    let (endianness, ee, h1) = bind_some (result_ok (i16_field t 0)) _ None h in
+    let (named, en, h2) = bind_some (result_ok (vector_field t 1 4)) _ None h1 in
+    let (v, ev, h3) = bind_some named _ None h2 in
+    let (found, ef, h4) = bind_some (fields_from v 0 v.count) _ None h3 in
+    let z : ℤ = unwrap_or endianness (pos 0) in
+    (z, or_absent_is (pos 0) (i16_field t 0) endianness z (ok_of (i16_field t 0) endianness ee) refl, differs z (pos 0) (cond_none (int_eq z (pos 0)) found (same_Some _ None h4)) refl)
+
+first_other : (head : Head) → first_header head ≡ Some None → FirstOther head
+first_other head h = by_schema (eqb head.number 1) refl h
+  where
+    by_batch : (b : Bool) → eqb head.number 3 ≡ b → cond {A = Option (Option (List FieldView))} b None (Some None) ≡ Some None → head.number ≢ 1 → FirstOther head
+    by_batch true e g n = absurd (cc)
+    by_batch false e g n = other_header n (eqb-false head.number 3 e)
+
+    by_schema : (b : Bool) → eqb head.number 1 ≡ b → cond b (schema_in head.header) (cond (eqb head.number 3) None (Some None)) ≡ Some None → FirstOther head
+    by_schema true e g = let z = big head.header g in big_endian z.0 (eqb-true head.number 1 e) (λ b. none_some (schema_in head.header) None (bad_schema_none head.header b) g) z.1 z.2
+    by_schema false e g = by_batch (eqb head.number 3) refl g (eqb-false head.number 1 e)
+
+other_first : (head : Head) → FirstOther head → first_header head ≡ Some None
+other_first head (other_header a b) = rw (ne_eqb head.number 1 a, ne_eqb head.number 3 b) refl
+other_first head (big_endian z e nb en n) = rw e (by_schema (schema_in head.header) refl)
+  where
+    by_schema : (o : Option (Option (List FieldView))) → schema_in head.header ≡ o → schema_in head.header ≡ Some None
+    by_schema None g = absurd (nb (schema_bad head.header g))
+    by_schema (Some None) g = g
+    by_schema (Some (Some fields)) g = absurd (n (same_Ok z (pos 0) (sym en ∙ little head.header fields g)))
+
+later_other : (head : Head) → later_header head ≡ Some None → LaterOther head
+later_other head h = by_batch (eqb head.number 3) refl h
+  where
+    no_batch : (o : Option BatchTables) → option_map (λ b. Some b) o ≡ Some None → ⊥
+    no_batch None g = cc
+    no_batch (Some batch) g = none_some None batch refl (sym (same_Some (Some batch) None g))
+
+    by_schema : (b : Bool) → eqb head.number 1 ≡ b → cond {A = Option (Option BatchTables)} b None (Some None) ≡ Some None → head.number ≢ 3 → LaterOther head
+    by_schema true e g n = absurd (cc)
+    by_schema false e g n = (n, eqb-false head.number 1 e)
+
+    by_batch : (b : Bool) → eqb head.number 3 ≡ b → cond b (option_map (λ b. Some b) (batch_in head.header)) (cond (eqb head.number 1) None (Some None)) ≡ Some None → LaterOther head
+    by_batch true e g = absurd (no_batch (batch_in head.header) g)
+    by_batch false e g = by_schema (eqb head.number 1) refl g (eqb-false head.number 3 e)
+
+other_later : (head : Head) → LaterOther head → later_header head ≡ Some None
+other_later head (a, b) = rw (ne_eqb head.number 3 a, ne_eqb head.number 1 b) refl
+
+-- ---- types of fields
+
 of_other : (t : TableView) (x : FieldView) → FieldSeen t x → x.kind ≡ None → OfOtherType t
 of_other t x s h = by_dictionary s.dictionary refl (s.seen ∙ h)
   where
@@ -545,5 +613,7 @@ bad_tables_are_told = record {
   batches = λ t. (batch_bad t, bad_batch_none t);
   first = λ head. (first_bad head, bad_first head);
   later = λ head. (later_bad head, bad_later head);
+  other_first = λ head. (first_other head, other_first head);
+  other_later = λ head. (later_other head, other_later head);
   kinds = λ v place t x e h. (of_other t x (field_seen v place x t h e), other_none v place t x e h);
 }

@@ -1,6 +1,6 @@
 -- Why the tables of a message can't be read, and why a field has none of the five types: one case for each row of the format's list
 -- (Message.fbs and Schema.fbs).
-use Rattle.std.specs.Prelude.{◌≡◌, ◌≢◌, ◌↔◌, ◌⊎◌, ℕ, ◌<◌, ℤ, pos, ◌<ℤ◌, List, [], Option, None, Some, Result, Ok, Err, IsUtf8}
+use Rattle.std.specs.Prelude.{◌≡◌, ◌≢◌, ◌↔◌, ℕ, ◌<◌, ℤ, pos, ◌<ℤ◌, List, [], None, Some, Result, Ok, Err, IsUtf8}
 use Rattle.flat_tables.specs.declared.fault.FlatFault.{FlatFault}
 use Rattle.flat_tables.specs.Views.{TableView, VectorView}
 use Rattle.flat_tables.specs.Reading.{field_at, named_table, u8_field, i16_field, i32_field, i64_field, table_field, text_field, vector_field, item_table}
@@ -74,6 +74,17 @@ pub data LaterBad (head : Head) : Type 0 where
   a_schema : head.number ≡ 1 → LaterBad head
   bad_batch : head.number ≡ 3 → BatchBad head.header → LaterBad head
 
+-- ---- other headers
+
+-- the first message has another header, or its schema, which can be read, has big-endian numbers
+pub data FirstOther (head : Head) : Type 0 where
+  other_header : head.number ≢ 1 → head.number ≢ 3 → FirstOther head
+  big_endian : (endianness : ℤ) → head.number ≡ 1 → ¬ SchemaBad head.header → or_absent (pos 0) (i16_field head.header 0) ≡ Ok endianness → endianness ≢ pos 0 → FirstOther head
+
+-- a later one is neither a schema nor a batch
+abbrev pub LaterOther : Head → Type 0
+LaterOther head = (head.number ≢ 3) × (head.number ≢ 1)
+
 -- ---- types
 
 -- Int without a sign or of another width, Date in another unit, and the other types of the union
@@ -91,11 +102,14 @@ pub data OfOtherType (field : TableView) : Type 0 where
 
 -- ---- the law
 
--- tables aren't read exactly where a row of these says so, and a field that is read has no type exactly where it is of another one
+-- tables aren't read exactly where a row of these says so, a message has another header exactly where one says so, and a field that is read
+-- has no type exactly where it is of another one
 pub record BadTablesAreTold : Type 0 where
   pub heads : (metadata : List ℕ) → (head_in metadata ≡ None) ↔ HeadBad metadata
   pub schemas : (schema : TableView) → (schema_in schema ≡ None) ↔ SchemaBad schema
   pub batches : (batch : TableView) → (batch_in batch ≡ None) ↔ BatchBad batch
   pub first : (head : Head) → (first_header head ≡ None) ↔ FirstBad head
   pub later : (head : Head) → (later_header head ≡ None) ↔ LaterBad head
+  pub other_first : (head : Head) → (first_header head ≡ Some None) ↔ FirstOther head
+  pub other_later : (head : Head) → (later_header head ≡ Some None) ↔ LaterOther head
   pub kinds : (fields : VectorView) (place : ℕ) (table : TableView) (field : FieldView) → item_table fields place ≡ Ok table → field_in fields place ≡ Some field → (field.kind ≡ None) ↔ OfOtherType table

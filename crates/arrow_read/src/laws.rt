@@ -33,8 +33,8 @@ pub fn column_faults_are_first()
     ensures { ColumnFaultsAreFirst }
 {}
 
-/// Law: a message's tables can't be read exactly where one of the format's rows says why, and a field that is read is of another type exactly
-/// where one of its rows says so. It does nothing.
+/// Law: a message's tables can't be read exactly where one of the format's rows says why, it has another header or big-endian numbers exactly
+/// where one says so, and a field that is read is of another type exactly where one says so. It does nothing.
 pub fn bad_tables_are_told()
     ensures { BadTablesAreTold }
 {}
