@@ -9,4 +9,3 @@ pub mod ChunkRuns
 pub mod Complete
 pub mod Growth
 pub mod Read
-pub mod Pieces

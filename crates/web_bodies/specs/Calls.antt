@@ -58,39 +58,3 @@ abbrev pub Refuses : Body → List ℕ → Body → BodyFault → Type 0
 Refuses old piece new (BadChunk at) = IsFaulty old piece new (BadChunk at)
 Refuses old piece new HeadTooLong = IsFaulty old piece new HeadTooLong
 Refuses old piece new OutOfMemory = new.place ≡ Refused OutOfMemory
-
--- so many bytes of a piece were taken, at least one, and their payload was appended
-pub record TakesRun (old : Body) (piece : List ℕ) (new : Body) (before now : List ℕ) (count : ℕ) : Type 0 where
-  pub some : 0 < count
-  pub within : count ≤ length piece
-  pub state : new ≡ after old (take count piece)
-  pub payload : now ≡ before ++ payload_after old (take count piece)
-  pub counted : new.count ≡ old.count + count
-  pub not_refused : (fault : BodyFault) → new.place ≢ Refused fault
-
--- so many bytes of a piece were taken, and their payload was appended: all of the piece, or up to where the body is over
-pub record TakesPiece (old : Body) (piece : List ℕ) (new : Body) (before now : List ℕ) (count : ℕ) : Type 0 where
-  pub within : count ≤ length piece
-  pub state : new ≡ after old (take count piece)
-  pub payload : now ≡ before ++ payload_after old (take count piece)
-  pub counted : new.count ≡ old.count + count
-  pub not_refused : (fault : BodyFault) → new.place ≢ Refused fault
-  pub ends : (count ≡ length piece) ⊎ (new.place ≡ Over)
-
--- the bytes of a piece lead to this fault, and the payload before it was appended
-pub record IsPieceFaulty (old : Body) (piece : List ℕ) (new : Body) (before now : List ℕ) (fault : BodyFault) : Type 0 where
-  pub state : new ≡ after old piece
-  pub payload : now ≡ before ++ payload_after old piece
-  pub refused : new.place ≡ Refused fault
-
--- memory ran out after so many bytes of a piece, whose payload was appended
-pub record RunsOut (old : Body) (piece : List ℕ) (new : Body) (before now : List ℕ) : Type 0 where
-  pub count : ℕ
-  pub payload : now ≡ before ++ payload_after old (take count piece)
-  pub refused : new.place ≡ Refused OutOfMemory
-
--- the piece was refused: for its bytes, or for want of memory
-abbrev pub RefusesPiece : Body → List ℕ → Body → List ℕ → List ℕ → BodyFault → Type 0
-RefusesPiece old piece new before now (BadChunk at) = IsPieceFaulty old piece new before now (BadChunk at)
-RefusesPiece old piece new before now HeadTooLong = IsPieceFaulty old piece new before now HeadTooLong
-RefusesPiece old piece new before now OutOfMemory = RunsOut old piece new before now

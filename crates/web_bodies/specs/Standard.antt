@@ -1,5 +1,5 @@
 -- Bodies in the words of RFC 9112, sections 6 and 7. A body in chunks is chunks, a last chunk line, and a trailer section with the empty line
--- that ends it; what stands in the lines of the section is skipped, so it may be any bytes.
+-- that ends it; what stands in the lines of the section is skipped, so it may be any bytes, where the standard has field lines there.
 use Rattle.std.specs.Prelude.{◌≡◌, ◌≢◌, ℕ, ◌+◌, ◌<◌, ◌≤◌, ◌⊎◌, List, [], ◌∷◌, ◌++◌, length, All}
 use Rattle.std.specs.List.{flat_map}
 use Rattle.httparse.specs.Ascii.{line_feed, carriage_return, crlf_bytes}

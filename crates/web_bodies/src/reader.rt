@@ -1,12 +1,11 @@
-ghost use Rattle.std.specs.Prelude.{◌≡◌, ◌≢◌, ◌↔◌, ◌+◌, ◌<◌, ◌≤◌, ◌^◌, ℕ, List, length, false, IsTrue, IfOk, IfErr, IsOk, OnOk, OnErr, Err, ◌⊎◌};
+ghost use Rattle.std.specs.Prelude.{◌≡◌, ◌≢◌, ◌↔◌, ◌+◌, ◌<◌, ◌≤◌, ◌^◌, ℕ, List, length, false, IsTrue, IfOk, IfErr, IsOk, OnOk, Err, ◌⊎◌};
 ghost use Rattle.web_bodies.specs.Body.{IsReached};
 ghost use Rattle.web_bodies.specs.Steps.{begin, awaits_payload, moved, line_step, body_step, after, payload_after};
 ghost use Rattle.web_bodies.specs.declared.fault.BodyFault.TheVariants.{OutOfMemory};
 ghost use Rattle.web_bodies.specs.Calls as calls;
-ghost use Rattle.web_bodies.specs.Calls.{TakesPayload, TakesFraming, Refuses, TakesRun, TakesPiece, RefusesPiece};
+ghost use Rattle.web_bodies.specs.Calls.{TakesPayload, TakesFraming, Refuses};
 
 use crate::{BodyFault, BodyPlace, steps};
-use cn_base::Bytes;
 use std::alloc::Global;
 use std::marker::Model;
 use web_heads::{BodyKind, chunk_size};
@@ -111,48 +110,6 @@ impl BodyReader {
             }
         }
         Ok(piece.len())
-    }
-
-    /// Takes a piece up to the end of the body, appends its payload, and says how many bytes it took: all of them, unless the body is over.
-    /// The bytes taken before and the piece are together fewer than 2^63. An `Err` is the body's fault, or want of memory; the body is
-    /// refused from then on, and every later call answers the same. The payload before a fault has been appended.
-    pub fn take_piece(&mut self, piece: &[u8], payload: &mut Bytes) -> Result<usize, BodyFault>
-        requires { self.old.count + length piece.now < 2 ^ 63 }
-        ensures taken { IfOk result (TakesPiece self.old piece.now self.new payload.old payload.new) }
-        ensures refused { IfErr result (RefusesPiece self.old piece.now self.new payload.old payload.new) }
-        ensures stays_refused { (fault : BodyFault) → self.old.place ≡ BodyPlace.Refused fault
-            → (result ≡ Err fault) × (self.new ≡ self.old) × (payload.new ≡ payload.old) }
-    {
-        if let BodyPlace::Refused { fault } = self.place {
-            return Err(fault);
-        }
-        let mut taken = 0;
-        while taken < piece.len() && !self.is_over() {
-            taken += self.take_run(&piece[taken..], payload)?;
-        }
-        Ok(taken)
-    }
-
-    /// Takes the next bytes that are all payload or all framing, and appends the payload. Without memory the payload stays as it was.
-    fn take_run(&mut self, piece: &[u8], payload: &mut Bytes) -> Result<usize, BodyFault>
-        requires some { 0 < length piece.now }
-        requires not_over { self.old.place ≢ BodyPlace.Over }
-        requires places { self.old.count + length piece.now < 2 ^ 63 }
-        ensures taken { IfOk result (TakesRun self.old piece.now self.new payload.old payload.new) }
-        ensures refused { IfErr result (Refuses self.old piece.now self.new) }
-        ensures payload { OnErr result (payload.new ≡ payload.old) }
-    {
-        let count = self.payload_ahead(piece.len());
-        if count == 0 {
-            return self.take_framing(piece);
-        }
-        match payload.append(&piece[..count]) {
-            Ok(()) => {
-                self.take_payload(count);
-                Ok(count)
-            }
-            Err(_) => Err(self.run_out()),
-        }
     }
 
     /// Takes one byte of the body. Without memory the body is refused.

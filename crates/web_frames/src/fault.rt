@@ -3,7 +3,8 @@ ghost use Rattle.web_frames.specs.declared.fault.FrameFault.TheVariants.{OutOfMe
 
 use thiserror::Error;
 
-/// Why payload bytes are refused. Each fault is settled by one byte, the last of the shortest beginning of which it holds.
+/// Why payload bytes are refused. Each fault is settled by one byte, the last of the shortest beginning of which it holds; of the faults that
+/// one byte settles, a flag of a compressed frame comes before one of trailers in a request, as they stand here.
 #[derive(Clone, Copy, Debug, PartialEq, Eq, Error)]
 pub enum FrameFault {
     /// A frame's length is above the limit of its side. It is settled by the last byte of the length, and nothing was reserved for it.
@@ -15,15 +16,15 @@ pub enum FrameFault {
     /// A byte follows the one message of a request.
     #[error("bytes after the message")]
     AfterMessage,
+    /// Trailers stand in a request. It is settled by their flag.
+    #[error("trailers in place of a message")]
+    NoMessage,
     /// A byte follows the trailers of a response.
     #[error("bytes after the trailers")]
     AfterTrailers,
     /// The trailers have no `grpc-status`, or one that is no decimal number up to 2^32 - 1. It is settled by the last byte of their frame.
     #[error("trailers without a right status")]
     BadTrailer,
-    /// Trailers stand in a request. It is settled by their flag.
-    #[error("trailers in place of a message")]
-    NoMessage,
     /// Memory ran out. It says nothing of the bytes.
     #[error("out of memory")]
     OutOfMemory,

@@ -17,7 +17,7 @@ abbrev pub extension_of : List ℕ → Option (Option (List ℕ))
 extension_of [] = Some None
 extension_of (b ∷ text) = if b == semicolon && list_all is_extension_byte text then Some (Some text) else None
 
--- one to sixteen hexadecimal digits, white space, and what follows
+-- one to sixteen hexadecimal digits, of which the standard sets no number, white space, and what follows
 unfoldable pub chunk_text : List ℕ → Option ChunkLine
 chunk_text text = do
   let digits = run is_ascii_hexdigit text

@@ -43,7 +43,7 @@ some_passes test (Some value) = test value
 unfoldable pub has_grpc_type : List NameValue → Bool
 has_grpc_type fields = some_passes is_grpc_web (first_value (codes "content-type") fields)
 
--- the transfer coding of a body in chunks (RFC 9112, section 7)
+-- the transfer coding of a body in chunks (RFC 9112, section 7); a value of several codings, as `gzip, chunked`, is another one
 unfoldable pub is_chunked : List ℕ → Bool
 is_chunked value = bytes_eq (str_to_ascii_lowercase value) (codes "chunked")
 

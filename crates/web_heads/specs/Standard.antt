@@ -1,5 +1,12 @@
 -- Heads in the words of RFC 9112 and of gRPC-Web: what their start line and fields say, and what is wrong with them, the first fault of the
 -- list of faults where several hold.
+--
+-- Where these words depart from RFC 9112 and RFC 9110: a transfer coding other than `chunked`, whole and in either case, counts as absent, where
+-- RFC 9112, section 6.1, has a request with an unknown one refused; the minor version and Host are not looked at (RFC 9112, sections 2.3 and 3.2),
+-- nor is a second Content-Type; a status of 1xx is read as a final answer, and a status without a body, as 204 and 304, has the body that its
+-- fields frame (RFC 9112, section 6.3, rule 1); both framings together are a fault, where section 6.3, rule 3, lets the chunks count. A length
+-- and a grpc-status may have leading zeros, as their grammars allow. Since a connection carries one request and one answer and is then closed,
+-- no byte behind them is read as another message: whoever takes the end of a body to be elsewhere, as a proxy, makes no second message of it.
 use Rattle.std.specs.Prelude.{◌≡◌, ◌≢◌, ℕ, ◌^◌, ◌<◌, ◌≤◌, ◌⊎◌, ◌↔◌, IsTrue, List, [], ◌∷◌, length, map, Some, Result, Ok, Err, codes, ⊤}
 use Rattle.std.specs.Char.{is_ascii_digit}
 use Rattle.std.specs.Str.{str_to_ascii_lowercase}
@@ -15,7 +22,7 @@ use Rattle.web_heads.specs.declared.response.ResponseHead.{ResponseHead}
 use Rattle.web_heads.specs.Trees.{most_fields}
 use Rattle.web_heads.specs.Fields.{NameValue, values, first_value, media_type, inner_lines}
 
--- decimal digits, one or more, and the number that they write
+-- decimal digits, one or more, leading zeros among them, and the number that they write
 pub record IsDecimal (text : List ℕ) (number : ℕ) : Type 0 where
   pub some : 0 < length text
   pub digits : grammar.AllPass is_ascii_digit text
@@ -27,7 +34,7 @@ pub record HasGrpcType (fields : List NameValue) : Type 0 where
   pub first : first_value (codes "content-type") fields ≡ Some value
   pub type : (media_type value ≡ codes "application/grpc-web") ⊎ (media_type value ≡ codes "application/grpc-web+proto")
 
--- the one transfer coding is that of chunks (RFC 9112, section 6.1)
+-- the one transfer coding is that of chunks (RFC 9112, section 6.1); any other one is as if the field weren't there
 pub record IsChunked (codings : List (List ℕ)) : Type 0 where
   pub value : List ℕ
   pub only : codings ≡ value ∷ []
@@ -117,7 +124,8 @@ pub record IsResponseText (bytes : List ℕ) (h : grammar.ResponseHead) : Type 0
 abbrev pub response_fields : grammar.ResponseHead → List NameValue
 response_fields h = map name_and_value h.fields
 
--- a response of this status, whose body ends with the connection where nothing else frames it
+-- a response of this status, whose body ends with the connection where nothing else frames it; that a status is interim or has no body (RFC 9112,
+-- section 6.3, rule 1) isn't looked at
 pub record IsResponse (h : grammar.ResponseHead) (head : ResponseHead) : Type 0 where
   pub status : head.status ≡ grammar.status_code h
   pub right : head.status ≡ 200 → HasGrpcType (response_fields h)
@@ -151,7 +159,8 @@ Answers (Err OutOfMemory) Says = ⊤
 
 -- ---- chunk lines
 
--- the line before a chunk (RFC 9112, section 7.1), all of the bytes and at most 256, and the size that it gives
+-- the line before a chunk (RFC 9112, section 7.1), all of the bytes and at most 256, and the size that it gives. The standard sets no number of
+-- digits; here a size has 1 to 16, leading zeros among them, so that it is a number of 64 bits
 pub record IsChunkLine (bytes : List ℕ) (size : ℕ) : Type 0 where
   pub line : grammar.ChunkLine
   pub reads : grammar.ReadsChunkLine bytes line []
