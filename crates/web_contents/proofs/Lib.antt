@@ -7,3 +7,4 @@ pub mod Ends
 pub mod Finish
 pub mod Read
 pub mod Runs
+pub mod Causes

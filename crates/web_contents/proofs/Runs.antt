@@ -40,6 +40,7 @@ use Rattle.web_contents.specs.Contents.{Content, is_complete, place_of, after, e
 use Rattle.web_contents.specs.Calls.{TakesPiece, Takes, Tells, Leads, Settles, Refuses, RunTells, TakesRun, Gives, told_of}
 use Rattle.web_contents.proofs.Parts.{parts, after-parts, events_of-parts, after-append, events_of-append, after-nil, events_of-nil}
 use Rattle.web_contents.proofs.Places.{IsGood, Standing, going_on, over, too_early, bad_body, bad_frames, standing, place-bad_body, place-bad_frames, refused-stays}
+use Rattle.web_contents.proofs.Causes.{by_cause, for_cause}
 
 -- ---- an event leaves frames that are complete
 
@@ -185,21 +186,8 @@ run_framing old piece count new x =
 
 -- what is settled is refused, whichever fault it is
 pub refuses_settled : (old : Content) (piece : List ℕ) (fault : WebFault) (new : Content) → Settles old piece fault new → Refuses old piece fault new
-refuses_settled old piece web.BadHead new x = x
-refuses_settled old piece web.HeadTooLong new x = x
-refuses_settled old piece web.TooManyHeaders new x = x
-refuses_settled old piece web.BadMethod new x = x
-refuses_settled old piece web.BadType new x = x
-refuses_settled old piece web.BadLength new x = x
-refuses_settled old piece (web.BadChunk at) new x = x
-refuses_settled old piece (web.FrameTooLong count) new x = x
-refuses_settled old piece web.Compressed new x = x
-refuses_settled old piece web.AfterMessage new x = x
-refuses_settled old piece web.AfterTrailers new x = x
-refuses_settled old piece web.BadTrailer new x = x
-refuses_settled old piece web.NoMessage new x = x
-refuses_settled old piece web.Truncated new x = x
-refuses_settled old piece web.OutOfMemory new x = x.refused
+refuses_settled old piece fault new x =
+    by_cause (Settles old piece fault new) (place_of new ≡ Refused web.OutOfMemory) fault x (λ out. x.refused ∙ ap (λ (f : WebFault). Refused f) out)
 
 pub refuses_framing : (old : Content) (piece : List ℕ) (new : Body) (fault : BodyFault) → IsGood old.frames.place
     → body_calls.Refuses old.body piece new fault → Refuses old piece (fault_of_body fault) (with_parts new old.frames)
@@ -317,10 +305,12 @@ refuses_payload old payload fault new all x = go fault x
 -- ---- a run of a part of the piece
 
 refuses_more : (old : Content) (front back : List ℕ) (fault : WebFault) (new : Content) → Refuses old front fault new → Refuses old (front ++ back) fault new
-refuses_more old front back fault new x = go fault x
+refuses_more old front back fault new x =
+    for_cause (Settles old front fault new) (place_of new ≡ Refused web.OutOfMemory) (Settles old (front ++ back) fault new)
+    (place_of new ≡ Refused web.OutOfMemory) fault longer (λ out spent. spent) x
   where
-    longer : (fault : WebFault) → Settles old front fault new → Settles old (front ++ back) fault new
-    longer fault x =
+    longer : Settles old front fault new → Settles old (front ++ back) fault new
+    longer x =
         let stays = refused-stays (after old front) back fault x.settled in
         record {
           settled = ap place_of (after-append old front back) ∙ stays.0;
@@ -328,23 +318,6 @@ refuses_more old front back fault new x = go fault x
               ∙ append-nil (events_of old front) ∙ x.silent;
           refused = x.refused;
         }
-
-    go : (fault : WebFault) → Refuses old front fault new → Refuses old (front ++ back) fault new
-    go web.BadHead x = longer web.BadHead x
-    go web.HeadTooLong x = longer web.HeadTooLong x
-    go web.TooManyHeaders x = longer web.TooManyHeaders x
-    go web.BadMethod x = longer web.BadMethod x
-    go web.BadType x = longer web.BadType x
-    go web.BadLength x = longer web.BadLength x
-    go (web.BadChunk at) x = longer (web.BadChunk at) x
-    go (web.FrameTooLong count) x = longer (web.FrameTooLong count) x
-    go web.Compressed x = longer web.Compressed x
-    go web.AfterMessage x = longer web.AfterMessage x
-    go web.AfterTrailers x = longer web.AfterTrailers x
-    go web.BadTrailer x = longer web.BadTrailer x
-    go web.NoMessage x = longer web.NoMessage x
-    go web.Truncated x = longer web.Truncated x
-    go web.OutOfMemory x = x
 
 first_part : (old : Content) (piece : List ℕ) (count n : ℕ) (event : Option FrameEvent) → n ≤ count → count ≤ length piece
     → OnSome event (events_of old (take (n - 1) (take count piece)) ≡ []) → OnSome event (events_of old (take (n - 1) piece) ≡ [])
@@ -429,10 +402,12 @@ gives_run old piece now next taken count (event.Trailers trailers) x y = tells_r
 -- a run that is refused
 pub refuses_run : (old : Content) (piece : List ℕ) (now next : Content) (taken : ℕ) (fault : WebFault) → SoFar old piece now taken
     → Refuses now (drop taken piece) fault next → Refuses old piece fault next
-refuses_run old piece now next taken fault x y = go fault y
+refuses_run old piece now next taken fault x y =
+    for_cause (Settles now (drop taken piece) fault next) (place_of next ≡ Refused web.OutOfMemory) (Settles old piece fault next)
+    (place_of next ≡ Refused web.OutOfMemory) fault settles (λ out spent. spent) y
   where
-    settles : (fault : WebFault) → Settles now (drop taken piece) fault next → Settles old piece fault next
-    settles fault y =
+    settles : Settles now (drop taken piece) fault next → Settles old piece fault next
+    settles y =
         let parts = take-append-drop taken piece in
         record {
           settled = ap (λ (p : List ℕ). place_of (after old p)) (sym parts)
@@ -443,23 +418,6 @@ refuses_run old piece now next taken fault x y = go fault y
               ∙ ap (λ (c : Content). events_of c (drop taken piece)) (sym x.takes.state) ∙ y.silent;
           refused = y.refused;
         }
-
-    go : (fault : WebFault) → Refuses now (drop taken piece) fault next → Refuses old piece fault next
-    go web.BadHead y = settles web.BadHead y
-    go web.HeadTooLong y = settles web.HeadTooLong y
-    go web.TooManyHeaders y = settles web.TooManyHeaders y
-    go web.BadMethod y = settles web.BadMethod y
-    go web.BadType y = settles web.BadType y
-    go web.BadLength y = settles web.BadLength y
-    go (web.BadChunk at) y = settles (web.BadChunk at) y
-    go (web.FrameTooLong count) y = settles (web.FrameTooLong count) y
-    go web.Compressed y = settles web.Compressed y
-    go web.AfterMessage y = settles web.AfterMessage y
-    go web.AfterTrailers y = settles web.AfterTrailers y
-    go web.BadTrailer y = settles web.BadTrailer y
-    go web.NoMessage y = settles web.NoMessage y
-    go web.Truncated y = settles web.Truncated y
-    go web.OutOfMemory y = y
 
 -- ---- the end of a piece
 

@@ -8,9 +8,10 @@ use Rattle.web_frames.specs.declared.event.FrameEvent.TheVariants as frame
 use Rattle.web_contents.specs.declared.event.ContentEvent.{ContentEvent}
 use Rattle.web_contents.specs.declared.event.ContentEvent.TheVariants.{Message, Trailers, End}
 use Rattle.web_contents.specs.declared.fault.WebFault.{WebFault}
-use Rattle.web_contents.specs.declared.fault.WebFault.TheVariants.{BadHead, HeadTooLong, TooManyHeaders, BadMethod, BadType, BadLength, BadChunk, FrameTooLong, Compressed, AfterMessage, AfterTrailers, BadTrailer, NoMessage, Truncated, OutOfMemory}
+use Rattle.web_contents.specs.declared.fault.WebFault.TheVariants.{OutOfMemory}
 use Rattle.web_contents.specs.declared.place.ContentPlace.{ContentPlace}
 use Rattle.web_contents.specs.declared.place.ContentPlace.TheVariants.{Open, Over, Refused}
+use Rattle.web_contents.specs.Faults.{ByCause}
 use Rattle.web_contents.specs.Contents.{Content, place_of, after, events_of}
 
 -- so many bytes of a piece were taken, all of them bytes of the body, and they leave this
@@ -51,21 +52,7 @@ pub record Settles (old : Content) (piece : List ℕ) (fault : WebFault) (new : 
 
 -- the piece is refused: for its bytes, or for want of memory, which says nothing of them
 abbrev pub Refuses : Content → List ℕ → WebFault → Content → Type 0
-Refuses old piece BadHead new = Settles old piece BadHead new
-Refuses old piece HeadTooLong new = Settles old piece HeadTooLong new
-Refuses old piece TooManyHeaders new = Settles old piece TooManyHeaders new
-Refuses old piece BadMethod new = Settles old piece BadMethod new
-Refuses old piece BadType new = Settles old piece BadType new
-Refuses old piece BadLength new = Settles old piece BadLength new
-Refuses old piece (BadChunk at) new = Settles old piece (BadChunk at) new
-Refuses old piece (FrameTooLong count) new = Settles old piece (FrameTooLong count) new
-Refuses old piece Compressed new = Settles old piece Compressed new
-Refuses old piece AfterMessage new = Settles old piece AfterMessage new
-Refuses old piece AfterTrailers new = Settles old piece AfterTrailers new
-Refuses old piece BadTrailer new = Settles old piece BadTrailer new
-Refuses old piece NoMessage new = Settles old piece NoMessage new
-Refuses old piece Truncated new = Settles old piece Truncated new
-Refuses old piece OutOfMemory new = place_of new ≡ Refused OutOfMemory
+Refuses old piece fault new = ByCause fault (Settles old piece fault new) (place_of new ≡ Refused OutOfMemory)
 
 -- what one call over a piece answers and leaves
 abbrev pub TakesPiece : Content → List ℕ → Result (ℕ × Option ContentEvent) WebFault → Content → Type 0

@@ -84,7 +84,8 @@ abbrev pub BreaksOff : Side → List ℕ → List (List ℕ) → Option Trailers
 BreaksOff Request payload messages trailers = AreFrames Request payload messages trailers × (messages ≡ [])
 BreaksOff Response payload messages trailers = AreCutOff Response payload messages trailers
 
--- the bytes are a body that ends before its frames are whole
+-- the bytes are a body that ends before its frames are whole. A body in chunks is judged at its end, the empty line behind the trailer section,
+-- and not at the last chunk line, though nothing of the payload can come between the two
 pub record IsUnfinished (side : Side) (kind : BodyKind) (bytes : List ℕ) (messages : List (List ℕ)) (trailers : Option Trailers)
     (fault : WebFault) : Type 0 where
   pub payload : List ℕ

@@ -7,18 +7,18 @@ use web_frames::FrameFault;
 use web_heads::HeadFault;
 
 /// Why the bytes of a connection are refused. The fault that the fewest bytes settle is the one that is answered. Of the faults that one byte
-/// settles it is the one that stands first here, but that TooManyHeaders comes before BadHead.
+/// settles it is the one that stands first here.
 #[derive(Clone, Copy, Debug, PartialEq, Eq, Error)]
 pub enum WebFault {
-    /// The bytes up to the first empty line are no head (RFC 9112, sections 2 to 5).
-    #[error("not an HTTP/1.1 head")]
-    BadHead,
     /// A head has 16 KiB without its end, or the trailer section of a body in chunks has 16 KiB without its end.
     #[error("a head of more than 16 KiB")]
     HeadTooLong,
     /// A head has more than 64 lines after its first.
     #[error("a head of more than 64 fields")]
     TooManyHeaders,
+    /// The bytes up to the first empty line are no head (RFC 9112, sections 2 to 5).
+    #[error("not an HTTP/1.1 head")]
+    BadHead,
     /// The method of a request isn't POST.
     #[error("not a POST")]
     BadMethod,
@@ -41,15 +41,15 @@ pub enum WebFault {
     /// A byte of the payload follows the one message of a request.
     #[error("bytes after the message")]
     AfterMessage,
+    /// The body of a request ends before its message does, or has trailers in place of it.
+    #[error("no message")]
+    NoMessage,
     /// A byte of the payload follows the trailers of a response.
     #[error("bytes after the trailers")]
     AfterTrailers,
     /// The trailers have no `grpc-status`, or one that is no decimal number up to 2^32 - 1.
     #[error("trailers without a right status")]
     BadTrailer,
-    /// The body of a request ends before its message does, or has trailers in place of it.
-    #[error("no message")]
-    NoMessage,
     /// The body of a response ends within a frame, or the connection ends within a body by length or in chunks.
     #[error("the body is cut off")]
     Truncated,
@@ -93,9 +93,9 @@ impl From<FrameFault> for WebFault {
             FrameFault::FrameTooLong { length } => WebFault::FrameTooLong { length },
             FrameFault::Compressed => WebFault::Compressed,
             FrameFault::AfterMessage => WebFault::AfterMessage,
+            FrameFault::NoMessage => WebFault::NoMessage,
             FrameFault::AfterTrailers => WebFault::AfterTrailers,
             FrameFault::BadTrailer => WebFault::BadTrailer,
-            FrameFault::NoMessage => WebFault::NoMessage,
             FrameFault::OutOfMemory => WebFault::OutOfMemory,
         }
     }

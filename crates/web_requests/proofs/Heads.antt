@@ -15,14 +15,14 @@ use Rattle.web_head_reader.proofs.Comes.{open_at, Comes, goes_on, ends, is_long,
 use Rattle.web_head_reader.proofs.Machine as head_machine
 use Rattle.web_heads.proofs.LastLemmas.{last_of}
 use Rattle.web_contents.specs.declared.fault.WebFault.{WebFault}
-use Rattle.web_contents.specs.declared.fault.WebFault.TheVariants.{BadHead, HeadTooLong, TooManyHeaders, BadMethod, BadType, BadLength, BadChunk, FrameTooLong, Compressed, AfterMessage, AfterTrailers, BadTrailer, NoMessage, Truncated, OutOfMemory}
 use Rattle.web_contents.specs.Contents.{Content, place_of}
 use Rattle.web_requests.specs.declared.stage.Stage.{Stage}
 use Rattle.web_requests.specs.declared.stage.Stage.TheVariants as stage
 use Rattle.web_requests.specs.Machine.{RequestState, heading, refused, fault_of_reading, after_head, heading_at, after}
-use Rattle.web_requests.specs.Calls.{Takes, is_open, IsFaulty, Refuses, is_heading, BeginsBodyWith, view_of, is_body, HoldsRequest}
+use Rattle.web_requests.specs.Calls.{Takes, is_open, IsFaulty, RunsOut, Refuses, is_heading, BeginsBodyWith, view_of, is_body, HoldsRequest}
 use Rattle.web_requests.proofs.Course.{after-refused, after-heading, after-heading-refused, after-head}
 use Rattle.web_requests.proofs.Pieces.{state_at-past}
+use Rattle.web_contents.proofs.Causes.{for_cause}
 
 -- a reader within the head
 pub record IsInHead (at : Stage) (h : HeadState) (s : RequestState) : Type 0 where
@@ -166,21 +166,10 @@ faulty_at s piece rest expected fault joined e = record {
 
 pub bad_head_refuses : (s : RequestState) (piece rest : List ℕ) (expected : RequestState) (fault : WebFault) → after expected rest ≡ after s piece
     → is_open s ≡ true → BeginsBodyWith expected (Err fault) → Refuses s piece fault (refused fault)
-bad_head_refuses s piece rest expected BadHead joined before e = faulty_at s piece rest expected BadHead joined e
-bad_head_refuses s piece rest expected HeadTooLong joined before e = faulty_at s piece rest expected HeadTooLong joined e
-bad_head_refuses s piece rest expected TooManyHeaders joined before e = faulty_at s piece rest expected TooManyHeaders joined e
-bad_head_refuses s piece rest expected BadMethod joined before e = faulty_at s piece rest expected BadMethod joined e
-bad_head_refuses s piece rest expected BadType joined before e = faulty_at s piece rest expected BadType joined e
-bad_head_refuses s piece rest expected BadLength joined before e = faulty_at s piece rest expected BadLength joined e
-bad_head_refuses s piece rest expected (BadChunk at) joined before e = faulty_at s piece rest expected (BadChunk at) joined e
-bad_head_refuses s piece rest expected (FrameTooLong count) joined before e = faulty_at s piece rest expected (FrameTooLong count) joined e
-bad_head_refuses s piece rest expected Compressed joined before e = faulty_at s piece rest expected Compressed joined e
-bad_head_refuses s piece rest expected AfterMessage joined before e = faulty_at s piece rest expected AfterMessage joined e
-bad_head_refuses s piece rest expected AfterTrailers joined before e = faulty_at s piece rest expected AfterTrailers joined e
-bad_head_refuses s piece rest expected BadTrailer joined before e = faulty_at s piece rest expected BadTrailer joined e
-bad_head_refuses s piece rest expected NoMessage joined before e = faulty_at s piece rest expected NoMessage joined e
-bad_head_refuses s piece rest expected Truncated joined before e = faulty_at s piece rest expected Truncated joined e
-bad_head_refuses s piece rest expected OutOfMemory joined before e = record { refused_is = refl; was_open = inl before }
+bad_head_refuses s piece rest expected fault joined before x =
+    for_cause (expected ≡ refused fault) (Unit {0}) (IsFaulty s piece fault (refused fault)) (RunsOut s (refused fault)) fault
+    (λ e. faulty_at s piece rest expected fault joined e)
+    (λ out y. record { refused_is = ap refused out; was_open = inl before }) x
 
 pub long_head_refuses : (at : Stage) (h new : HeadState) (s : RequestState) (piece : List ℕ) (fault : HeadReadFault) → IsInHead at h s
     → head_calls.Refuses h piece new fault → Refuses s piece (fault_of_reading fault) (refused (fault_of_reading fault))

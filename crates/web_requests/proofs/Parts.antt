@@ -13,7 +13,7 @@ use Rattle.web_frames.specs.declared.status.Trailers.{Trailers}
 use Rattle.web_frames.specs.declared.event.FrameEvent.{FrameEvent}
 use Rattle.web_frames.specs.declared.event.FrameEvent.TheVariants as event
 use Rattle.web_contents.specs.declared.fault.WebFault.{WebFault}
-use Rattle.web_contents.specs.declared.fault.WebFault.TheVariants.{BadHead, HeadTooLong, TooManyHeaders, BadMethod, BadType, BadLength, BadChunk, FrameTooLong, Compressed, AfterMessage, AfterTrailers, BadTrailer, NoMessage, Truncated, OutOfMemory}
+use Rattle.web_contents.specs.declared.fault.WebFault.TheVariants.{OutOfMemory}
 use Rattle.web_contents.specs.declared.place.ContentPlace.{ContentPlace}
 use Rattle.web_contents.specs.declared.place.ContentPlace.TheVariants as content
 use Rattle.web_contents.specs.declared.event.ContentEvent.{ContentEvent}
@@ -25,11 +25,12 @@ use Rattle.web_contents.specs.Calls as content_calls
 use Rattle.web_contents.specs.Laws as content_laws
 use Rattle.web_contents.proofs.Parts as content_parts
 use Rattle.web_contents.proofs.Read as content_proofs
+use Rattle.web_contents.proofs.Causes.{for_cause}
 use Rattle.web_requests.specs.declared.stage.Stage.{Stage}
 use Rattle.web_requests.specs.declared.stage.Stage.TheVariants as stage
 use Rattle.web_requests.specs.Machine.{RequestState, heading, within, whole, refused, message_after, state_at, state_of, after_head, after}
 use Rattle.web_requests.specs.Bounds.{IsBounded}
-use Rattle.web_requests.specs.Calls.{IsFaulty, Refuses, is_open, is_within, TakesPart, BeginsBody, view_of, is_head, is_body, HoldsRequest}
+use Rattle.web_requests.specs.Calls.{IsFaulty, RunsOut, Refuses, is_open, is_within, TakesPart, BeginsBody, view_of, is_head, is_body, HoldsRequest}
 use Rattle.web_requests.proofs.Course.{after-append, after-body, after-refused}
 use Rattle.web_requests.proofs.Growing.{after-bounded, begin-bounded, few}
 
@@ -200,24 +201,11 @@ faulty_part s path message old new piece most fault s_is x =
 pub refuses_part : (s : RequestState) (path message : List ℕ) (old new : Content) (piece : List ℕ) (most : ℕ) (fault : WebFault)
     → s ≡ state_of path message old → is_within s ≡ true → content_calls.Refuses old (take most piece) fault new
     → Refuses s piece fault (state_of path message new)
-refuses_part s path message old new piece most BadHead e before x = faulty_part s path message old new piece most BadHead e x
-refuses_part s path message old new piece most HeadTooLong e before x = faulty_part s path message old new piece most HeadTooLong e x
-refuses_part s path message old new piece most TooManyHeaders e before x = faulty_part s path message old new piece most TooManyHeaders e x
-refuses_part s path message old new piece most BadMethod e before x = faulty_part s path message old new piece most BadMethod e x
-refuses_part s path message old new piece most BadType e before x = faulty_part s path message old new piece most BadType e x
-refuses_part s path message old new piece most BadLength e before x = faulty_part s path message old new piece most BadLength e x
-refuses_part s path message old new piece most (BadChunk at) e before x = faulty_part s path message old new piece most (BadChunk at) e x
-refuses_part s path message old new piece most (FrameTooLong count) e before x = faulty_part s path message old new piece most (FrameTooLong count) e x
-refuses_part s path message old new piece most Compressed e before x = faulty_part s path message old new piece most Compressed e x
-refuses_part s path message old new piece most AfterMessage e before x = faulty_part s path message old new piece most AfterMessage e x
-refuses_part s path message old new piece most AfterTrailers e before x = faulty_part s path message old new piece most AfterTrailers e x
-refuses_part s path message old new piece most BadTrailer e before x = faulty_part s path message old new piece most BadTrailer e x
-refuses_part s path message old new piece most NoMessage e before x = faulty_part s path message old new piece most NoMessage e x
-refuses_part s path message old new piece most Truncated e before x = faulty_part s path message old new piece most Truncated e x
-refuses_part s path message old new piece most OutOfMemory e before x = record {
-  refused_is = ap (λ (p : ContentPlace). state_at p path message new) x;
-  was_open = inl (within_open s before);
-}
+refuses_part s path message old new piece most fault e before x =
+    for_cause (content_calls.Settles old (take most piece) fault new) (place_of new ≡ content.Refused OutOfMemory)
+    (IsFaulty s piece fault (state_of path message new)) (RunsOut s (state_of path message new)) fault
+    (λ y. faulty_part s path message old new piece most fault e y)
+    (λ out y. record { refused_is = ap (λ (p : ContentPlace). state_at p path message new) y; was_open = inl (within_open s before) }) x
 
 -- ---- the body begins
 

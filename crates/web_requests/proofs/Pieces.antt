@@ -1,16 +1,17 @@
 -- A piece, taken in parts.
-use Rattle.std.proofs.Common.{◌≡◌, ℕ, ◌+◌, ◌≤◌, ◌⊎◌, inl, inr, Bool, true, false, List, [], ◌∷◌, length, take, drop, refl, sym, ap, ◌∙◌, subst, arith, Result, Ok, Err, length-drop, take-append-drop}
+use Rattle.std.proofs.Common.{◌≡◌, ℕ, ◌+◌, ◌≤◌, ◌⊎◌, inl, inr, ⊎_elim, Bool, true, false, List, [], ◌∷◌, length, take, drop, refl, sym, ap, ◌∙◌, subst, arith, Result, Ok, Err, length-drop, take-append-drop}
 use Rattle.std.proofs.Math.Seq.{take-add}
 use Rattle.std.proofs.lemmas.Bool.{false≢true}
 use Rattle.std.proofs.lemmas.List.{take_all}
 use Rattle.web_contents.specs.declared.fault.WebFault.{WebFault}
-use Rattle.web_contents.specs.declared.fault.WebFault.TheVariants.{BadHead, HeadTooLong, TooManyHeaders, BadMethod, BadType, BadLength, BadChunk, FrameTooLong, Compressed, AfterMessage, AfterTrailers, BadTrailer, NoMessage, Truncated, OutOfMemory}
+use Rattle.web_contents.specs.declared.fault.WebFault.TheVariants.{OutOfMemory}
 use Rattle.web_contents.specs.declared.place.ContentPlace.{ContentPlace}
 use Rattle.web_contents.specs.declared.place.ContentPlace.TheVariants as content
 use Rattle.web_contents.specs.Contents.{Content, place_of, content_step, content_events}
 use Rattle.web_requests.specs.Machine.{RequestState, heading, within, whole, refused, message_after, state_at, request_step, after}
 use Rattle.web_requests.specs.Calls.{is_open, IsFaulty, RunsOut, Refuses, Feeds, answer_of, is_heading, is_within, TakesPart}
 use Rattle.web_requests.proofs.Course.{after-append, after-nil, after-cons, after-refused, after-whole}
+use Rattle.web_contents.proofs.Causes.{cause_of, by_cause, for_cause}
 
 -- ---- states that don't go back
 
@@ -70,40 +71,15 @@ rest_joined old piece now taken so_far =
 
 faulty_refuses : (old : RequestState) (piece : List ℕ) (fault : WebFault) (new : RequestState) → IsFaulty old piece fault new
     → (fault ≡ OutOfMemory → RunsOut old new) → Refuses old piece fault new
-faulty_refuses old piece BadHead new x out = x
-faulty_refuses old piece HeadTooLong new x out = x
-faulty_refuses old piece TooManyHeaders new x out = x
-faulty_refuses old piece BadMethod new x out = x
-faulty_refuses old piece BadType new x out = x
-faulty_refuses old piece BadLength new x out = x
-faulty_refuses old piece (BadChunk at) new x out = x
-faulty_refuses old piece (FrameTooLong count) new x out = x
-faulty_refuses old piece Compressed new x out = x
-faulty_refuses old piece AfterMessage new x out = x
-faulty_refuses old piece AfterTrailers new x out = x
-faulty_refuses old piece BadTrailer new x out = x
-faulty_refuses old piece NoMessage new x out = x
-faulty_refuses old piece Truncated new x out = x
-faulty_refuses old piece OutOfMemory new x out = out refl
+faulty_refuses old piece fault new x out = by_cause (IsFaulty old piece fault new) (RunsOut old new) fault x out
 
 -- a call that goes on where others left off
 refuses_from : (old next : RequestState) (piece rest : List ℕ) (fault : WebFault) (new : RequestState) → after next rest ≡ after old piece
     → is_open old ≡ true → Refuses next rest fault new → Refuses old piece fault new
-refuses_from old next piece rest BadHead new same before x = record { state = x.state ∙ same; fault_is = x.fault_is }
-refuses_from old next piece rest HeadTooLong new same before x = record { state = x.state ∙ same; fault_is = x.fault_is }
-refuses_from old next piece rest TooManyHeaders new same before x = record { state = x.state ∙ same; fault_is = x.fault_is }
-refuses_from old next piece rest BadMethod new same before x = record { state = x.state ∙ same; fault_is = x.fault_is }
-refuses_from old next piece rest BadType new same before x = record { state = x.state ∙ same; fault_is = x.fault_is }
-refuses_from old next piece rest BadLength new same before x = record { state = x.state ∙ same; fault_is = x.fault_is }
-refuses_from old next piece rest (BadChunk at) new same before x = record { state = x.state ∙ same; fault_is = x.fault_is }
-refuses_from old next piece rest (FrameTooLong count) new same before x = record { state = x.state ∙ same; fault_is = x.fault_is }
-refuses_from old next piece rest Compressed new same before x = record { state = x.state ∙ same; fault_is = x.fault_is }
-refuses_from old next piece rest AfterMessage new same before x = record { state = x.state ∙ same; fault_is = x.fault_is }
-refuses_from old next piece rest AfterTrailers new same before x = record { state = x.state ∙ same; fault_is = x.fault_is }
-refuses_from old next piece rest BadTrailer new same before x = record { state = x.state ∙ same; fault_is = x.fault_is }
-refuses_from old next piece rest NoMessage new same before x = record { state = x.state ∙ same; fault_is = x.fault_is }
-refuses_from old next piece rest Truncated new same before x = record { state = x.state ∙ same; fault_is = x.fault_is }
-refuses_from old next piece rest OutOfMemory new same before x = record { refused_is = x.refused_is; was_open = inl before }
+refuses_from old next piece rest fault new same before x =
+    for_cause (IsFaulty next rest fault new) (RunsOut next new) (IsFaulty old piece fault new) (RunsOut old new) fault
+    (λ y. record { state = y.state ∙ same; fault_is = y.fault_is })
+    (λ out y. record { refused_is = y.refused_is; was_open = inl before }) x
 
 pub feeds_from : (old next : RequestState) (piece rest : List ℕ) (r : Result Bool WebFault) (new : RequestState) → after next rest ≡ after old piece
     → is_open old ≡ true → Feeds next rest r new → Feeds old piece r new
@@ -171,25 +147,15 @@ same_fault piece fault found new x =
 
 refused_same : (piece : List ℕ) (fault found : WebFault) (new : RequestState) → Refuses (refused fault) piece found new
     → (found ≡ fault) × (new ≡ refused fault)
-refused_same piece fault BadHead new x = same_fault piece fault BadHead new x
-refused_same piece fault HeadTooLong new x = same_fault piece fault HeadTooLong new x
-refused_same piece fault TooManyHeaders new x = same_fault piece fault TooManyHeaders new x
-refused_same piece fault BadMethod new x = same_fault piece fault BadMethod new x
-refused_same piece fault BadType new x = same_fault piece fault BadType new x
-refused_same piece fault BadLength new x = same_fault piece fault BadLength new x
-refused_same piece fault (BadChunk at) new x = same_fault piece fault (BadChunk at) new x
-refused_same piece fault (FrameTooLong count) new x = same_fault piece fault (FrameTooLong count) new x
-refused_same piece fault Compressed new x = same_fault piece fault Compressed new x
-refused_same piece fault AfterMessage new x = same_fault piece fault AfterMessage new x
-refused_same piece fault AfterTrailers new x = same_fault piece fault AfterTrailers new x
-refused_same piece fault BadTrailer new x = same_fault piece fault BadTrailer new x
-refused_same piece fault NoMessage new x = same_fault piece fault NoMessage new x
-refused_same piece fault Truncated new x = same_fault piece fault Truncated new x
-refused_same piece fault OutOfMemory new x = same_out x.was_open
+refused_same piece fault found new x =
+    ⊎_elim (λ (y : IsFaulty (refused fault) piece found new). same_fault piece fault found new y)
+    (λ (y : (found ≡ OutOfMemory) × RunsOut (refused fault) new). same_out y.0 y.1.refused_is y.1.was_open)
+    (cause_of (IsFaulty (refused fault) piece found new) (RunsOut (refused fault) new) found x)
   where
-    same_out : (is_open (refused fault) ≡ true) ⊎ (refused fault ≡ refused OutOfMemory) → (OutOfMemory ≡ fault) × (new ≡ refused fault)
-    same_out (inl e) = absurd (false≢true e)
-    same_out (inr e) = (let same : OutOfMemory ≡ fault = cc in same, x.refused_is ∙ sym e)
+    same_out : found ≡ OutOfMemory → new ≡ refused OutOfMemory → (is_open (refused fault) ≡ true) ⊎ (refused fault ≡ refused OutOfMemory)
+        → (found ≡ fault) × (new ≡ refused fault)
+    same_out is now (inl e) = absurd (false≢true e)
+    same_out is now (inr e) = (let same : OutOfMemory ≡ fault = cc in is ∙ same, now ∙ sym e)
 
 pub stays_refused : (s : RequestState) (piece : List ℕ) (r : Result Bool WebFault) (new : RequestState) (fault : WebFault) → s ≡ refused fault
     → Feeds s piece r new → (r ≡ Err fault) × (new ≡ refused fault)

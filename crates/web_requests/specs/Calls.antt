@@ -5,7 +5,8 @@ use Rattle.web_head_reader.specs.Steps.{HeadState}
 use Rattle.web_heads.specs.Requests.{request_head}
 use Rattle.web_head_reader.specs.Standard.{IsBegun}
 use Rattle.web_contents.specs.declared.fault.WebFault.{WebFault}
-use Rattle.web_contents.specs.declared.fault.WebFault.TheVariants.{BadHead, HeadTooLong, TooManyHeaders, BadMethod, BadType, BadLength, BadChunk, FrameTooLong, Compressed, AfterMessage, AfterTrailers, BadTrailer, NoMessage, Truncated, OutOfMemory}
+use Rattle.web_contents.specs.declared.fault.WebFault.TheVariants.{OutOfMemory}
+use Rattle.web_contents.specs.Faults.{ByCause}
 use Rattle.web_contents.specs.Contents.{Content}
 use Rattle.web_requests.specs.declared.stage.Stage.{Stage}
 use Rattle.web_requests.specs.declared.stage.Stage.TheVariants as stage
@@ -37,21 +38,7 @@ pub record RunsOut (old new : RequestState) : Type 0 where
 
 -- a piece was refused: for its bytes, or for want of memory, which says nothing of them
 abbrev pub Refuses : RequestState → List ℕ → WebFault → RequestState → Type 0
-Refuses old piece BadHead new = IsFaulty old piece BadHead new
-Refuses old piece HeadTooLong new = IsFaulty old piece HeadTooLong new
-Refuses old piece TooManyHeaders new = IsFaulty old piece TooManyHeaders new
-Refuses old piece BadMethod new = IsFaulty old piece BadMethod new
-Refuses old piece BadType new = IsFaulty old piece BadType new
-Refuses old piece BadLength new = IsFaulty old piece BadLength new
-Refuses old piece (BadChunk at) new = IsFaulty old piece (BadChunk at) new
-Refuses old piece (FrameTooLong count) new = IsFaulty old piece (FrameTooLong count) new
-Refuses old piece Compressed new = IsFaulty old piece Compressed new
-Refuses old piece AfterMessage new = IsFaulty old piece AfterMessage new
-Refuses old piece AfterTrailers new = IsFaulty old piece AfterTrailers new
-Refuses old piece BadTrailer new = IsFaulty old piece BadTrailer new
-Refuses old piece NoMessage new = IsFaulty old piece NoMessage new
-Refuses old piece Truncated new = IsFaulty old piece Truncated new
-Refuses old piece OutOfMemory new = RunsOut old new
+Refuses old piece fault new = ByCause fault (IsFaulty old piece fault new) (RunsOut old new)
 
 -- what one call over a piece answers and leaves
 abbrev pub Feeds : RequestState → List ℕ → Result Bool WebFault → RequestState → Type 0
@@ -92,21 +79,7 @@ TakesSome old piece (Err fault) new = Refuses old piece fault new
 -- what a whole head leads to, unless memory ran out
 abbrev pub BeginsBodyWith : RequestState → Result (List ℕ × Content) WebFault → Type 0
 BeginsBodyWith expected (Ok found) = (expected ≡ state_of found.0 [] found.1) × IsBounded found.1
-BeginsBodyWith expected (Err BadHead) = expected ≡ refused BadHead
-BeginsBodyWith expected (Err HeadTooLong) = expected ≡ refused HeadTooLong
-BeginsBodyWith expected (Err TooManyHeaders) = expected ≡ refused TooManyHeaders
-BeginsBodyWith expected (Err BadMethod) = expected ≡ refused BadMethod
-BeginsBodyWith expected (Err BadType) = expected ≡ refused BadType
-BeginsBodyWith expected (Err BadLength) = expected ≡ refused BadLength
-BeginsBodyWith expected (Err (BadChunk at)) = expected ≡ refused (BadChunk at)
-BeginsBodyWith expected (Err (FrameTooLong count)) = expected ≡ refused (FrameTooLong count)
-BeginsBodyWith expected (Err Compressed) = expected ≡ refused Compressed
-BeginsBodyWith expected (Err AfterMessage) = expected ≡ refused AfterMessage
-BeginsBodyWith expected (Err AfterTrailers) = expected ≡ refused AfterTrailers
-BeginsBodyWith expected (Err BadTrailer) = expected ≡ refused BadTrailer
-BeginsBodyWith expected (Err NoMessage) = expected ≡ refused NoMessage
-BeginsBodyWith expected (Err Truncated) = expected ≡ refused Truncated
-BeginsBodyWith expected (Err OutOfMemory) = Unit {0}
+BeginsBodyWith expected (Err fault) = ByCause fault (expected ≡ refused fault) (Unit {0})
 
 abbrev pub BeginsBody : List ℕ → Result (List ℕ × Content) WebFault → Type 0
 BeginsBody head result = BeginsBodyWith (after_head (length head) (request_head head)) result

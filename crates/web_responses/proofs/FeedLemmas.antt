@@ -1,5 +1,5 @@
 -- One call of a reader of answers.
-use Rattle.std.proofs.Common.{◌≡◌, ◌≢◌, ℕ, ◌+◌, ◌-◌, ◌<◌, ◌≤◌, ◌⊎◌, inl, inr, Bool, true, false, cond, ltb, zero, suc, List, [], ◌∷◌, ◌++◌, length, take, drop, refl, sym, ap, ◌∙◌, subst, append-nil, take-append-drop, length-append, length-take-le, Option, Some, None, Ok, Err, Result, arith}
+use Rattle.std.proofs.Common.{◌≡◌, ◌≢◌, ℕ, ◌+◌, ◌-◌, ◌<◌, ◌≤◌, ◌⊎◌, inl, inr, ⊎_elim, Bool, true, false, cond, ltb, zero, suc, List, [], ◌∷◌, ◌++◌, length, take, drop, refl, sym, ap, ◌∙◌, subst, append-nil, take-append-drop, length-append, length-take-le, Option, Some, None, Ok, Err, Result, arith}
 use Rattle.std.specs.Prelude.{map, ◌↔◌, IsTrue, is_some, IfNone}
 use Rattle.std.specs.Option.{option_to_list}
 use Rattle.std.proofs.lemmas.Bool.{false≢true, cond_both}
@@ -25,6 +25,7 @@ use Rattle.web_contents.specs.declared.place.ContentPlace.TheVariants.{Open, Ove
 use Rattle.web_contents.specs.Contents.{Content, place_of}
 use Rattle.web_contents.specs.Contents as contents
 use Rattle.web_contents.specs.Calls as content_calls
+use Rattle.web_contents.proofs.Causes.{cause_of, by_cause}
 use Rattle.web_contents.proofs.Parts as content_parts
 use Rattle.web_contents.proofs.Places as places
 use Rattle.web_contents.proofs.Runs.{last_of}
@@ -36,7 +37,7 @@ use Rattle.web_responses.specs.declared.reader.Stage.{Stage}
 use Rattle.web_responses.specs.declared.reader.Stage.TheVariants as stage
 use Rattle.web_responses.specs.Openings.{fault_of_reading, opening, Reads}
 use Rattle.web_responses.specs.Answers.{AnswerState, in_head, in_body, bad_head, begin_body, event_of, end_at, end_told, opened_body, opened, opened_told, head_led, head_told, answer_step, after, events_of, standing}
-use Rattle.web_responses.specs.Calls.{begin_of, state_of, end_due, due_of, Reader, IsHead, IsBody, Holds, Feeds, Settles, Refuses}
+use Rattle.web_responses.specs.Calls.{begin_of, state_of, end_due, due_of, Reader, IsHead, IsBody, Holds, Feeds, Settles, RunsOut, Refuses}
 use Rattle.web_responses.proofs.Runs.{after-nil, after-cons, events_of-cons, step-in_head, told-in_head, events_of-nil, after-append, events_of-append, after-in_body, events-in_body, Does, head_open, head_last, over-stays, refused-stays}
 use Rattle.web_responses.proofs.Ends.{no_front}
 
@@ -57,64 +58,36 @@ stage_body (stage.Refused fault) h c is = absurd is
 
 -- ---- refusals
 
-pub refuses_settled : (old : Reader) (piece : List ℕ) (fault : WebFault) (new : Reader) → Settles old piece fault new → Refuses old piece fault new
-refuses_settled old piece web.BadHead new x = x
-refuses_settled old piece web.HeadTooLong new x = x
-refuses_settled old piece web.TooManyHeaders new x = x
-refuses_settled old piece web.BadMethod new x = x
-refuses_settled old piece web.BadType new x = x
-refuses_settled old piece web.BadLength new x = x
-refuses_settled old piece (web.BadChunk at) new x = x
-refuses_settled old piece (web.FrameTooLong count) new x = x
-refuses_settled old piece web.Compressed new x = x
-refuses_settled old piece web.AfterMessage new x = x
-refuses_settled old piece web.AfterTrailers new x = x
-refuses_settled old piece web.BadTrailer new x = x
-refuses_settled old piece web.NoMessage new x = x
-refuses_settled old piece web.Truncated new x = x
-refuses_settled old piece web.OutOfMemory new x = record { refused = x.refused; none_due = x.none_due; counted = x.counted }
+-- what is settled is refused, whichever fault it is, where want of memory could come
+pub refuses_settled : (old : Reader) (piece : List ℕ) (fault : WebFault) (new : Reader) → Settles old piece fault new
+    → (standing old.state ≡ Open) ⊎ (standing old.state ≡ Refused fault) → Refuses old piece fault new
+refuses_settled old piece fault new x before =
+    by_cause (Settles old piece fault new) (RunsOut old piece new) fault x (λ out. record {
+      none_was_due = no_front old.due (events_of old.state piece) x.silent;
+      was_open = ⊎_elim (λ going. inl going) (λ refused. inr (refused ∙ ap (λ (f : WebFault). Refused f) out)) before;
+      refused = x.refused ∙ ap (λ (f : WebFault). Refused f) out;
+      none_due = x.none_due;
+      counted = x.counted;
+    })
 
 -- what a call gave that failed, unless memory ran out
 pub reads_err : (fault : WebFault) (expected : Result Opening WebFault) → Reads (Err fault) expected → (expected ≡ Err fault) ⊎ (fault ≡ web.OutOfMemory)
-reads_err web.BadHead expected x = inl x
-reads_err web.HeadTooLong expected x = inl x
-reads_err web.TooManyHeaders expected x = inl x
-reads_err web.BadMethod expected x = inl x
-reads_err web.BadType expected x = inl x
-reads_err web.BadLength expected x = inl x
-reads_err (web.BadChunk at) expected x = inl x
-reads_err (web.FrameTooLong count) expected x = inl x
-reads_err web.Compressed expected x = inl x
-reads_err web.AfterMessage expected x = inl x
-reads_err web.AfterTrailers expected x = inl x
-reads_err web.BadTrailer expected x = inl x
-reads_err web.NoMessage expected x = inl x
-reads_err web.Truncated expected x = inl x
-reads_err web.OutOfMemory expected x = inr refl
+reads_err fault expected x =
+    ⊎_elim (λ (y : expected ≡ Err fault). inl y) (λ (y : (fault ≡ web.OutOfMemory) × Unit {0}). inr y.0) (cause_of (expected ≡ Err fault) (Unit {0}) fault x)
 
 -- what a body refuses, unless memory ran out
 pub content_settles : (old : Content) (piece : List ℕ) (fault : WebFault) (new : Content) → content_calls.Refuses old piece fault new
     → (content_calls.Settles old piece fault new) ⊎ (fault ≡ web.OutOfMemory)
-content_settles old piece web.BadHead new x = inl x
-content_settles old piece web.HeadTooLong new x = inl x
-content_settles old piece web.TooManyHeaders new x = inl x
-content_settles old piece web.BadMethod new x = inl x
-content_settles old piece web.BadType new x = inl x
-content_settles old piece web.BadLength new x = inl x
-content_settles old piece (web.BadChunk at) new x = inl x
-content_settles old piece (web.FrameTooLong count) new x = inl x
-content_settles old piece web.Compressed new x = inl x
-content_settles old piece web.AfterMessage new x = inl x
-content_settles old piece web.AfterTrailers new x = inl x
-content_settles old piece web.BadTrailer new x = inl x
-content_settles old piece web.NoMessage new x = inl x
-content_settles old piece web.Truncated new x = inl x
-content_settles old piece web.OutOfMemory new x = inr refl
+content_settles old piece fault new x =
+    ⊎_elim (λ (y : content_calls.Settles old piece fault new). inl y)
+    (λ (y : (fault ≡ web.OutOfMemory) × (place_of new ≡ Refused web.OutOfMemory)). inr y.0)
+    (cause_of (content_calls.Settles old piece fault new) (place_of new ≡ Refused web.OutOfMemory) fault x)
 
-runs_out : (old : Reader) (piece : List ℕ) (fault : WebFault) (due : List WebEvent) (count : ℕ) → due ≡ [] → fault ≡ web.OutOfMemory
-    → count ≤ old.count + length piece → Refuses old piece fault (reader (bad_head fault) due count)
-runs_out old piece fault due count none e counted =
-    subst (λ (f : WebFault). Refuses old piece f (reader (bad_head f) due count)) (sym e) (record { refused = refl; none_due = none; counted = counted })
+runs_out : (old : Reader) (piece : List ℕ) (fault : WebFault) (due : List WebEvent) (count : ℕ) → old.due ≡ [] → standing old.state ≡ Open
+    → due ≡ [] → fault ≡ web.OutOfMemory → count ≤ old.count + length piece → Refuses old piece fault (reader (bad_head fault) due count)
+runs_out old piece fault due count was_none going none e counted =
+    subst (λ (f : WebFault). Refuses old piece f (reader (bad_head f) due count)) (sym e)
+    (record { none_was_due = was_none; was_open = inl going; refused = refl; none_due = none; counted = counted })
 
 -- an answer that was refused before
 pub refuses_before : (old new : Reader) (piece : List ℕ) (fault : WebFault) → old.due ≡ [] → new.state ≡ old.state → standing new.state ≡ Refused fault → new.due ≡ []
@@ -127,7 +100,7 @@ refuses_before old new piece fault none same stands none_due count =
       refused = stands;
       none_due = none_due;
       counted = omega arith;
-    })
+    }) (inr (ap standing (sym same) ∙ stands))
 
 -- ---- an event that is due
 
@@ -308,9 +281,9 @@ refuses_opening_by s h c due n m piece new count fault e none x going whole (inl
     subst (λ (t : Stage). Refuses (reader (state_of t h c) due n) piece fault (reader (bad_head fault) due m)) (sym e)
     (refuses_settled (reader (in_head h) due n) piece fault (reader (bad_head fault) due m)
     (settles_more (in_head h) due n piece count fault due m none none (ap standing (does.0 ∙ ap (opened (length new.held)) says))
-    (does.1 ∙ ap (opened_told (length new.held)) says) counted))
+    (does.1 ∙ ap (opened_told (length new.held)) says) counted) (inl refl))
 refuses_opening_by s h c due n m piece new count fault e none x going whole (inr memory) counted =
-    runs_out (reader (state_of s h c) due n) piece fault due m none memory counted
+    runs_out (reader (state_of s h c) due n) piece fault due m none (ap (λ (t : Stage). standing (state_of t h c)) e) none memory counted
 
 pub refuses_opening : (s : Stage) (h : HeadState) (c : Content) (due : List WebEvent) (n m : ℕ) (piece : List ℕ) (new : HeadState) (count : ℕ) (fault : WebFault)
     → s ≡ stage.Head → due ≡ [] → Takes h piece new count → h.place ≡ head.Open → new.place ≡ head.Whole → Reads (Err fault) (opening new.held)
@@ -363,7 +336,13 @@ refuses_head s h c due n piece new read.HeadTooLong e none going x =
     let refused = head_refused h piece read.HeadTooLong going (ap (λ (t : HeadState). t.place) (sym x.state) ∙ x.refused) in
     subst (λ (t : Stage). Refuses (reader (state_of t h c) due n) piece web.HeadTooLong (reader (bad_head web.HeadTooLong) due n)) (sym e)
     (record { settled = refused.0; silent = ap (λ (d : List WebEvent). d ++ events_of (in_head h) piece) none ∙ refused.1; refused = refl; none_due = none; counted = omega arith })
-refuses_head s h c due n piece new read.OutOfMemory e none going x = record { refused = refl; none_due = none; counted = omega arith }
+refuses_head s h c due n piece new read.OutOfMemory e none going x = record {
+  none_was_due = none;
+  was_open = inl (ap (λ (t : Stage). standing (state_of t h c)) e);
+  refused = refl;
+  none_due = none;
+  counted = omega arith;
+}
 
 -- ---- behind the head
 
@@ -487,8 +466,9 @@ refuses_body_by s h c due n piece fault new e none going (inl x) =
       refused = refl;
       none_due = none;
       counted = omega arith;
-    }))
-refuses_body_by s h c due n piece fault new e none going (inr memory) = runs_out (reader (state_of s h c) due n) piece fault due n none memory (omega arith)
+    }) (inl going))
+refuses_body_by s h c due n piece fault new e none going (inr memory) =
+    runs_out (reader (state_of s h c) due n) piece fault due n none (ap (λ (t : Stage). standing (state_of t h c)) e ∙ going) none memory (omega arith)
 
 pub refuses_body : (s : Stage) (h : HeadState) (c : Content) (due : List WebEvent) (n : ℕ) (piece : List ℕ) (fault : WebFault) (new : Content) → s ≡ stage.Body → due ≡ []
     → place_of c ≡ Open → content_calls.Refuses c piece fault new → Refuses (reader (state_of s h c) due n) piece fault (reader (bad_head fault) due n)

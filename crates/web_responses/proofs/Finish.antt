@@ -1,5 +1,5 @@
 -- What the end of the connection makes of an answer.
-use Rattle.std.proofs.Common.{◌≡◌, ◌≢◌, ℕ, ◌⊎◌, inl, inr, true, false, List, [], ◌∷◌, length, refl, sym, ap, ◌∙◌, subst, Option, Some, None, Ok, Err, Result, Bool}
+use Rattle.std.proofs.Common.{◌≡◌, ◌≢◌, ℕ, ◌⊎◌, inl, inr, true, false, List, [], length, refl, sym, ap, ◌∙◌, subst, Option, Some, None, Ok, Err, Result, Bool}
 use Rattle.std.proofs.lemmas.Bool.{false≢true}
 use Rattle.web_heads.specs.declared.body.BodyKind.{BodyKind}
 use Rattle.web_heads.specs.declared.body.BodyKind.TheVariants.{Length, Chunks, ToEnd}

@@ -1,5 +1,5 @@
 -- What the calls of a reader of answers answer and leave, and what it holds between them.
-use Rattle.std.specs.Prelude.{◌≡◌, ◌≢◌, ℕ, ◌+◌, ◌<◌, ◌≤◌, Bool, true, false, List, [], ◌∷◌, ◌++◌, length, take, map, Option, IfNone, Result, Ok, Err}
+use Rattle.std.specs.Prelude.{◌≡◌, ◌≢◌, ℕ, ◌+◌, ◌<◌, ◌≤◌, ◌⊎◌, Bool, true, false, List, [], ◌∷◌, ◌++◌, length, take, map, Option, IfNone, Result, Ok, Err}
 use Rattle.std.specs.Option.{option_to_list}
 use Rattle.web_heads.specs.declared.body.BodyKind.{BodyKind}
 use Rattle.web_head_reader.specs.declared.place.HeadPlace.TheVariants as head
@@ -11,8 +11,9 @@ use Rattle.web_frames.specs.declared.fault.FrameFault.TheVariants as frame
 use Rattle.web_frames.specs.declared.status.Trailers.{Trailers}
 use Rattle.web_frames.specs.Machine.{FrameState, refused_at}
 use Rattle.web_contents.specs.declared.fault.WebFault.{WebFault}
-use Rattle.web_contents.specs.declared.fault.WebFault.TheVariants.{BadHead, HeadTooLong, TooManyHeaders, BadMethod, BadType, BadLength, BadChunk, FrameTooLong, Compressed, AfterMessage, AfterTrailers, BadTrailer, NoMessage, Truncated, OutOfMemory}
-use Rattle.web_contents.specs.declared.place.ContentPlace.TheVariants.{Refused}
+use Rattle.web_contents.specs.declared.fault.WebFault.TheVariants.{OutOfMemory}
+use Rattle.web_contents.specs.declared.place.ContentPlace.TheVariants.{Open, Refused}
+use Rattle.web_contents.specs.Faults.{ByCause}
 use Rattle.web_contents.specs.Contents.{Content, place_of}
 use Rattle.web_contents.specs.Contents as contents
 use Rattle.web_responses.specs.declared.event.WebEvent.{WebEvent}
@@ -103,29 +104,17 @@ pub record Settles (old : Reader) (piece : List ℕ) (fault : WebFault) (new : R
   pub none_due : new.due ≡ []
   pub counted : new.count ≤ old.count + length piece
 
--- memory ran out, now or before
+-- memory ran out within the answer, now or before, when no event was left to be told; it is refused from now on
 pub record RunsOut (old : Reader) (piece : List ℕ) (new : Reader) : Type 0 where
+  pub none_was_due : old.due ≡ []
+  pub was_open : (standing old.state ≡ Open) ⊎ (standing old.state ≡ Refused OutOfMemory)
   pub refused : standing new.state ≡ Refused OutOfMemory
   pub none_due : new.due ≡ []
   pub counted : new.count ≤ old.count + length piece
 
 -- the piece is refused: for its bytes, or for want of memory, which says nothing of them
 abbrev pub Refuses : Reader → List ℕ → WebFault → Reader → Type 0
-Refuses old piece BadHead new = Settles old piece BadHead new
-Refuses old piece HeadTooLong new = Settles old piece HeadTooLong new
-Refuses old piece TooManyHeaders new = Settles old piece TooManyHeaders new
-Refuses old piece BadMethod new = Settles old piece BadMethod new
-Refuses old piece BadType new = Settles old piece BadType new
-Refuses old piece BadLength new = Settles old piece BadLength new
-Refuses old piece (BadChunk at) new = Settles old piece (BadChunk at) new
-Refuses old piece (FrameTooLong count) new = Settles old piece (FrameTooLong count) new
-Refuses old piece Compressed new = Settles old piece Compressed new
-Refuses old piece AfterMessage new = Settles old piece AfterMessage new
-Refuses old piece AfterTrailers new = Settles old piece AfterTrailers new
-Refuses old piece BadTrailer new = Settles old piece BadTrailer new
-Refuses old piece NoMessage new = Settles old piece NoMessage new
-Refuses old piece Truncated new = Settles old piece Truncated new
-Refuses old piece OutOfMemory new = RunsOut old piece new
+Refuses old piece fault new = ByCause fault (Settles old piece fault new) (RunsOut old piece new)
 
 abbrev pub FeedsPiece : Reader → List ℕ → Result (ℕ × Option WebEvent) WebFault → Reader → Type 0
 FeedsPiece old piece (Ok answer) new = Feeds old piece answer.0 answer.1 new

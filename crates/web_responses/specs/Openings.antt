@@ -10,8 +10,8 @@ use Rattle.web_frames.specs.declared.fault.FrameFault.TheVariants as frame
 use Rattle.web_frames.specs.declared.status.Trailers.{Trailers}
 use Rattle.web_frames.specs.Trailers.{trailers_of}
 use Rattle.web_contents.specs.declared.fault.WebFault.{WebFault}
-use Rattle.web_contents.specs.declared.fault.WebFault.TheVariants.{BadHead, HeadTooLong, TooManyHeaders, BadMethod, BadType, BadLength, BadChunk, FrameTooLong, Compressed, AfterMessage, AfterTrailers, BadTrailer, NoMessage, Truncated, OutOfMemory}
-use Rattle.web_contents.specs.Faults.{fault_of_head}
+use Rattle.web_contents.specs.declared.fault.WebFault.TheVariants.{HeadTooLong, BadTrailer, OutOfMemory}
+use Rattle.web_contents.specs.Faults.{fault_of_head, ByCause}
 use Rattle.web_responses.specs.declared.opening.Opening.{Opening}
 
 -- the fault of a head that isn't whole
@@ -45,21 +45,7 @@ opening head = opening_of (response_head head)
 -- a call gave what the definition gives, unless memory ran out
 abbrev pub Reads : Result Opening WebFault → Result Opening WebFault → Type 0
 Reads (Ok found) expected = expected ≡ Ok found
-Reads (Err BadHead) expected = expected ≡ Err BadHead
-Reads (Err HeadTooLong) expected = expected ≡ Err HeadTooLong
-Reads (Err TooManyHeaders) expected = expected ≡ Err TooManyHeaders
-Reads (Err BadMethod) expected = expected ≡ Err BadMethod
-Reads (Err BadType) expected = expected ≡ Err BadType
-Reads (Err BadLength) expected = expected ≡ Err BadLength
-Reads (Err (BadChunk at)) expected = expected ≡ Err (BadChunk at)
-Reads (Err (FrameTooLong count)) expected = expected ≡ Err (FrameTooLong count)
-Reads (Err Compressed) expected = expected ≡ Err Compressed
-Reads (Err AfterMessage) expected = expected ≡ Err AfterMessage
-Reads (Err AfterTrailers) expected = expected ≡ Err AfterTrailers
-Reads (Err BadTrailer) expected = expected ≡ Err BadTrailer
-Reads (Err NoMessage) expected = expected ≡ Err NoMessage
-Reads (Err Truncated) expected = expected ≡ Err Truncated
-Reads (Err OutOfMemory) expected = Unit {0}
+Reads (Err fault) expected = ByCause fault (expected ≡ Err fault) (Unit {0})
 
 -- a call gave the trailers of a head, unless memory ran out
 abbrev pub ReadsTrailers : Result (Option Trailers) FrameFault → Option (Option Trailers) → Type 0

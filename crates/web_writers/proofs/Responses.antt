@@ -1,5 +1,5 @@
 -- What is written of a response is what the standard says of its messages and trailers.
-use Rattle.std.proofs.Common.{◌≡◌, ℕ, zero, suc, eqb, ◌+◌, ◌/◌, ◌%◌, ◌^◌, ◌<◌, ◌≤◌, true, false, List, [], ◌∷◌, ◌++◌, length, refl, sym, ap, ◌∙◌, arith, append_assoc, append-nil, length-append, Some, None, codes}
+use Rattle.std.proofs.Common.{◌≡◌, ◌≢◌, inl, Option, ℕ, zero, suc, eqb, ◌+◌, ◌/◌, ◌%◌, ◌^◌, ◌<◌, ◌≤◌, true, false, List, [], ◌∷◌, ◌++◌, length, refl, sym, ap, ◌∙◌, arith, append_assoc, append-nil, length-append, Some, None, codes}
 use Rattle.std.proofs.Common.{lit<, lit≤}
 use Rattle.std.proofs.Math.Nat.{pow-suc}
 use Rattle.std.specs.List.{All, flat_map}
@@ -14,14 +14,16 @@ use Rattle.std.proofs.lemmas.Fmt.{digits_is_IsNumeral}
 use Rattle.httparse.specs.Grammar as grammar
 use Rattle.web_heads.specs.declared.body.BodyKind.TheVariants.{Chunks}
 use Rattle.web_heads.specs.Standard.{IsChunkLine}
-use Rattle.web_bodies.specs.Standard.{Chunk, IsChunk, chunk_bytes, chunks_bytes, chunks_data, IsTrailerSection}
+use Rattle.httparse.specs.Ascii.{line_feed}
+use Rattle.web_bodies.specs.Standard.{Chunk, IsChunk, chunk_bytes, chunks_bytes, chunks_data, IsTrailerSection, in_line}
 use Rattle.web_frames.specs.declared.limits.Side.TheVariants.{Response}
 use Rattle.web_frames.specs.declared.status.Trailers.{Trailers}
 use Rattle.web_frames.specs.Format.{frame}
 use Rattle.web_frames.specs.Trailers.{trailers_text}
-use Rattle.web_frames.specs.Standard.{TrailersSay, IsMessage, AreMessages, AreTrailers}
+use Rattle.web_frames.specs.Standard.{IsBytes, TrailersSay, IsMessage, AreMessages, AreTrailers}
 use Rattle.web_frames.proofs.WrittenLemmas.{written_trailers}
-use Rattle.web_contents.specs.Standard.{HasContent}
+use Rattle.web_contents.specs.Standard.{HasContent, BeginsContent}
+use Rattle.web_contents.proofs.Read as contents
 use Rattle.web_writers.specs.Responses.{chunk, frame_chunk, message_bytes, body_bytes, MayBeWritten}
 use Rattle.web_writers.specs.Laws.{ResponsesAreSaid}
 use Rattle.web_writers.proofs.TrailersText.{length-trailers_text}
@@ -213,5 +215,64 @@ body_said messages trailers rest x =
       enough = tt;
     }
 
+-- ---- bodies of which more has to come
+
+-- the chunks of messages
+message_chunks : List (List ℕ) → List Chunk
+message_chunks [] = []
+message_chunks (message ∷ messages) = chunk_of 0 message ∷ message_chunks messages
+
+are_message_chunks : (messages : List (List ℕ)) → All (λ message. length message ≤ 16777216) messages → All IsChunk (message_chunks messages)
+unfolding message_chunks
+are_message_chunks [] all = All-nil IsChunk
+are_message_chunks (message ∷ messages) all =
+    All-cons IsChunk (chunk_of 0 message) (message_chunks messages)
+    (is_chunk 0 message (All-head (λ m. length m ≤ 16777216) message messages all))
+    (are_message_chunks messages (All-tail (λ m. length m ≤ 16777216) message messages all))
+
+message_chunks-bytes : (messages : List (List ℕ)) → chunks_bytes (message_chunks messages) ≡ flat_map message_bytes messages
+unfolding message_chunks
+message_chunks-bytes [] = refl
+message_chunks-bytes (message ∷ messages) =
+    ap (λ (front : List ℕ). front ++ chunks_bytes (message_chunks messages)) (chunk_of-bytes 0 message)
+    ∙ ap (λ (rest : List ℕ). frame_chunk 0 message ++ rest) (message_chunks-bytes messages)
+
+message_chunks-data : (messages : List (List ℕ)) → chunks_data (message_chunks messages) ≡ flat_map (frame 0) messages
+unfolding message_chunks chunk_of
+message_chunks-data [] = refl
+message_chunks-data (message ∷ messages) = ap (λ (rest : List ℕ). frame 0 message ++ rest) (message_chunks-data messages)
+
+body_begun : (messages : List (List ℕ)) → All (λ message. length message ≤ 16777216) messages
+    → BeginsContent Response Chunks (flat_map message_bytes messages) messages None
+body_begun messages all = record {
+  payload = flat_map (frame 0) messages;
+  body = record {
+    chunks = message_chunks messages;
+    each = are_message_chunks messages all;
+    rest = [];
+    content = [];
+    part = in_line (All-nil (λ b. b ≢ line_feed)) (lit≤ tt) refl;
+    bytes_are = sym (message_chunks-bytes messages) ∙ sym (append-nil (chunks_bytes (message_chunks messages)));
+    payload_is = sym (message_chunks-data messages) ∙ sym (append-nil (chunks_data (message_chunks messages)));
+  };
+  frames = inl (record {
+    front = flat_map (frame 0) messages;
+    back = [];
+    whole = sym (append-nil (flat_map (frame 0) messages));
+    first = are_messages messages all;
+    last = refl;
+    few = tt;
+  });
+}
+
+body_cut_off : (messages : List (List ℕ)) (trailers : Trailers) (front back : List ℕ) → MayBeWritten messages trailers → IsBytes front
+    → back ≢ [] → front ++ back ≡ body_bytes messages trailers
+    → (before : List (List ℕ)) × (earlier : Option Trailers) × BeginsContent Response Chunks front before earlier
+unfolding body_said
+body_cut_off messages trailers front [] x all some e = absurd (some refl)
+body_cut_off messages trailers front (b ∷ back) x all some e =
+    contents.ends_are_first.whole Response Chunks (body_bytes messages trailers ++ []) messages (Some trailers) (body_said messages trailers [] x)
+    front b back all (sym e)
+
 pub responses_are_said : ResponsesAreSaid
-responses_are_said = record { is_head = is_head; head = says; body = body_said }
+responses_are_said = record { is_head = is_head; head = says; body = body_said; begun = body_begun; cut_off = body_cut_off }

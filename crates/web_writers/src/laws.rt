@@ -7,7 +7,8 @@ pub fn requests_are_read_back()
     ensures { RequestsAreReadBack }
 {}
 
-/// The head, the messages and the end of a response are, in the words of RFC 9112 and gRPC-Web, a response with these messages and trailers.
+/// The head, the messages and the end of a response are, in the words of RFC 9112 and gRPC-Web, a response with these messages and trailers. Its
+/// messages alone, and a body without some of its last bytes, are a beginning of one.
 pub fn responses_are_said()
     ensures { ResponsesAreSaid }
 {}
