@@ -42,7 +42,7 @@ chunk_bytes flag payload small fits all =
     (All-append IsByte text (codes "\r\n") (size_bytes (length (frame flag payload)) (omega arith)) end) (frame_bytes flag payload small all))
     end
 
-messages_bytes : (messages : List (List ℕ)) → All (λ message. length message ≤ 16777216) messages → All IsBytes messages
+pub messages_bytes : (messages : List (List ℕ)) → All (λ message. length message ≤ 16777216) messages → All IsBytes messages
     → IsBytes (flat_map message_bytes messages)
 messages_bytes [] each all = All-nil IsByte
 messages_bytes (message ∷ messages) each all =
@@ -93,7 +93,7 @@ text_bytes trailers small =
 
 -- ---- answers
 
-head_bytes : IsBytes head_text
+pub head_bytes : IsBytes head_text
 unfolding head_text
 head_bytes = closed_bytes (codes "HTTP/1.1 200 OK\r\ncontent-type: application/grpc-web+proto\r\nconnection: close\r\ntransfer-encoding: chunked\r\n\r\n") refl
 

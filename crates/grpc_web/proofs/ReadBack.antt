@@ -40,7 +40,7 @@ said messages trailers rest x = record {
   told_is = events_joined messages trailers;
 }
 
-read_back : (messages : List (List ℕ)) (trailers : Trailers) (rest : List ℕ) → MayBeWritten messages trailers → All IsBytes messages → IsBytes rest
+pub read_back : (messages : List (List ℕ)) (trailers : Trailers) (rest : List ℕ) → MayBeWritten messages trailers → All IsBytes messages → IsBytes rest
     → ((answer_in (answer_bytes messages trailers ++ rest)).place ≡ Over)
     × ((answer_in (answer_bytes messages trailers ++ rest)).told ≡ answer_events messages trailers)
 read_back messages trailers rest x all others =

@@ -15,13 +15,14 @@ use Rattle.web_heads.specs.declared.response.ResponseHead.{ResponseHead}
 use Rattle.web_heads.specs.Fields.{values, first_value, inner_lines}
 use Rattle.web_heads.specs.Standard.{HasManyLines, HasGrpcType, IsChunked, response_fields, ResponseSays}
 use Rattle.web_head_reader.specs.Standard.{IsHead}
+use Rattle.web_head_reader.proofs.Read as heads
 use Rattle.web_bodies.proofs.Growth.{length_framed}
 use Rattle.web_frames.specs.declared.limits.Side.TheVariants.{Response}
 use Rattle.web_frames.specs.Standard.{IsBytes}
 use Rattle.web_contents.specs.declared.place.ContentPlace.TheVariants.{Over}
 use Rattle.web_contents.specs.Standard.{HasContent}
 use Rattle.web_responses.specs.Answers.{begin, after, events_of, standing, answer_in}
-use Rattle.web_responses.specs.Standard.{HasAnswer}
+use Rattle.web_responses.specs.Standard.{HasAnswer, BeginsAnswer, within_head}
 use Rattle.web_responses.specs.Laws.{events_of_pieces}
 use Rattle.web_responses.proofs.Read as answers
 use Rattle.web_writers.specs.Responses.{phrase_of, refused_text}
@@ -270,5 +271,10 @@ in_pieces status pieces x e =
       answers.pieces_join.told begin pieces ∙ ap (events_of begin) e ∙ sym (told_of bytes) ∙ told,
     )
 
+cut_off : (status : ℕ) (front back : List ℕ) → IsRefusal status → back ≢ [] → front ++ back ≡ refused_text status → BeginsAnswer front []
+cut_off status front [] x some e = absurd (some refl)
+cut_off status front (b ∷ back) x some e =
+    within_head (heads.ends_are_first.whole front b back (subst IsHead (sym e) (is_head (computed status x)))) refl
+
 pub refusals_are_read_back : RefusalsAreReadBack
-refusals_are_read_back = record { said = said; read_back = read_back; in_pieces = in_pieces }
+refusals_are_read_back = record { said = said; read_back = read_back; in_pieces = in_pieces; cut_off = cut_off }

@@ -1,2 +1,3 @@
--- That what is written is read back.
+-- What a refused request is answered with, and that what is written is read back.
+pub mod FaultAnswers
 pub mod Laws

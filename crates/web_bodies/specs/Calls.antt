@@ -1,5 +1,5 @@
 -- What the calls of a reader of bodies answer and leave.
-use Rattle.std.specs.Prelude.{◌≡◌, ◌≢◌, ℕ, ◌+◌, ◌-◌, ◌<◌, ◌≤◌, ◌⊎◌, min, List, [], ◌++◌, length, take, IsTrue}
+use Rattle.std.specs.Prelude.{◌≡◌, ◌≢◌, ℕ, ◌+◌, ◌-◌, ◌<◌, ◌≤◌, ◌⊎◌, min, List, [], length, take, IsTrue}
 use Rattle.web_bodies.specs.declared.fault.BodyFault.{BodyFault}
 use Rattle.web_bodies.specs.declared.fault.BodyFault.TheVariants.{BadChunk, HeadTooLong, OutOfMemory}
 use Rattle.web_bodies.specs.declared.place.BodyPlace.{BodyPlace}
