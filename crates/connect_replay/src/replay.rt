@@ -33,6 +33,10 @@ pub fn replay<S: Source, K: Sink>(
     ensures read_fault { result ≡ ReplayStatus.ReadFault → Rose (S.faults input.old) (S.faults input.new) }
     ensures write_fault { result ≡ ReplayStatus.WriteFault → Rose (K.faults output.old) (K.faults output.new) }
 
+    // And any other answer says that it had none: no read and no write that failed is passed over.
+    ensures no_read_fault { result ≢ ReplayStatus.ReadFault → S.faults input.new ≡ S.faults input.old }
+    ensures no_write_fault { result ≢ ReplayStatus.WriteFault → K.faults output.new ≡ K.faults output.old }
+
     ensures whole { result ≡ ReplayStatus.Done → IsAtEnd (S.left input.new) }
     ensures reads_counted { S.faults input.old ≤ S.faults input.new }
     ensures writes_counted { K.faults output.old ≤ K.faults output.new }
@@ -61,6 +65,7 @@ fn finish<K: Sink>(output: &mut K, text: &str, status: ReplayStatus) -> ReplaySt
         → Leaves words script (K.told output.old) (K.told output.new) result }
     ensures status { (result ≡ status) ⊎ ((result ≡ ReplayStatus.WriteFault) × Rose (K.faults output.old) (K.faults output.new)) }
     ensures counted { K.faults output.old ≤ K.faults output.new }
+    ensures kept { result ≢ ReplayStatus.WriteFault → K.faults output.new ≡ K.faults output.old }
 {
     match write_all(output, text.as_bytes()) {
         Ok(()) => status,
