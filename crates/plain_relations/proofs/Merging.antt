@@ -1,16 +1,17 @@
 -- Maps that are merged, the least key first.
-use Rattle.std.proofs.Common.{◌≡◌, ℕ, ◌+◌, ◌<◌, ◌≤◌, List, [], ◌∷◌, ◌++◌, map, take, drop, get_or, length, Option, None, Some, Bor, refl, sym, ap, ◌∙◌, subst, arith}
+use Rattle.std.proofs.Common.{◌≡◌, ℕ, ◌+◌, ◌-◌, ◌<◌, ◌≤◌, List, [], ◌∷◌, ◌++◌, take, drop, length, Option, None, Some, refl, sym, ap, ◌∙◌, subst, arith}
 use Rattle.std.specs.Prelude.{MatchOption, slice_index_or}
 use Rattle.std.specs.Option.{option_or}
 use Rattle.std.specs.declared.cmp.Ordering.TheVariants.{Less, Equal, Greater}
-use Rattle.std.proofs.lemmas.List.{map-append, take-append-drop}
-use Rattle.proto_fields.specs.Fields.{fields_of}
+use Rattle.std.proofs.lemmas.List.{take-append-drop, drop-append-le, take-take, length-take, length-append}
+use Rattle.std.proofs.Math.Seq.{drop-append_seam, drop-length}
 use Rattle.proto_fields.proofs.PieceLemmas.{AllByRecursion-append}
 use Rattle.proto_fields.proofs.ReturnLemmas.{last_some-append}
-use Rattle.plain_relations.specs.declared.renamed.RenameEntry.{RenameEntry}
+use Rattle.plain_relations.specs.declared.rename_entry.RenameEntry.{RenameEntry}
 use Rattle.plain_relations.specs.Firsts.{order_of_first}
-use Rattle.plain_relations.specs.Maps.{entry_of, put_before, map_of, KeysRise, value_of}
-use Rattle.plain_relations.proofs.MapLaws.{order, turned, turned_back, IsBelow, lower_below, same_below, rising_tail, rising_below, put_less, put_equal, put_greater, below_put, value_in, map_rises, map_value, one_map}
+use Rattle.plain_relations.specs.Maps.{put_before, map_of, KeysRise, value_of}
+use Rattle.plain_relations.specs.Rising.{order, turned_back, IsBelow, lower_below, rising_tail, rising_below, put_less, put_equal, put_greater, below_put, map_rises}
+use Rattle.plain_relations.proofs.MapLaws.{turned, same_below, value_in, map_value, one_map}
 
 -- ---- what comes first
 
@@ -67,6 +68,10 @@ both_first first second early late rising_early rising_late same =
     ∙ put_equal first second (map_of (early ++ late)) same
 
 -- ---- maps that are maps already
+
+rising_one : (entry : RenameEntry) → KeysRise (entry ∷ [])
+unfolding KeysRise
+rising_one entry = tt
 
 -- a list whose keys rise is its own map
 pub rising_same : (entries : List RenameEntry) → KeysRise entries → map_of entries ≡ entries
@@ -167,29 +172,44 @@ greater_taken (first ∷ early) (second ∷ late) late_left len left taken risin
 pub rising_is : (found entries : List RenameEntry) → found ≡ map_of entries → KeysRise found
 rising_is found entries is = subst KeysRise (sym is) (map_rises entries)
 
-pub map_none : {A : Type 0} (read : A → RenameEntry) (xs : List A) → length xs < 1 → [] ≡ map_of (map read xs)
-map_none read [] few = sym none_left
-map_none read (x ∷ xs) few = absurd (omega arith)
+-- no entry, and one
+pub map_zero : (entries : List RenameEntry) (count : ℕ) → count ≡ 0 → [] ≡ map_of (drop (length entries - count) entries)
+map_zero entries count none =
+    sym (ap (λ (n : ℕ). map_of (drop n entries)) (let all : length entries - count ≡ length entries = omega arith in all)
+    ∙ ap map_of (drop-length entries) ∙ none_left)
 
-pub map_one : {A : Type 0} (read : A → RenameEntry) (xs : List A) (default : A) (entry : RenameEntry) → 1 ≤ length xs → length xs < 2 → entry ≡ read (get_or xs 0 default) →
-    entry ∷ [] ≡ map_of (map read xs)
-map_one read [] default entry some few is = absurd (omega arith)
-map_one read (x ∷ []) default entry some few is =
-    ap (λ (e : RenameEntry). e ∷ []) is ∙ sym (first_of (read x) [] tt ∙ ap (λ (es : List RenameEntry). read x ∷ es) none_left)
-map_one read (x ∷ y ∷ xs) default entry some few is = absurd (omega arith)
+pub map_one : (entries : List RenameEntry) (last : RenameEntry) (front : List RenameEntry) (count : ℕ) → entries ≡ front ++ last ∷ [] → count ≡ 1 →
+    last ∷ [] ≡ map_of (drop (length entries - count) entries)
+map_one entries last front count is one = sym (ap map_of rest ∙ rising_same (last ∷ []) (rising_one last))
+  where
+    place : length entries - count ≡ length front
+    place = omega (arith, ap length is, length-append front (last ∷ []))
 
-pub halves_of : {A : Type 0} (read : A → RenameEntry) (xs front back : List A) (middle : ℕ) (early late : List RenameEntry) → front ≡ take middle xs → back ≡ drop middle xs →
-    early ≡ map_of (map read front) → late ≡ map_of (map read back) → map_of (early ++ late) ≡ map_of (map read xs)
-halves_of {A} read xs front back middle early late front_is back_is early_is late_is =
+    rest : drop (length entries - count) entries ≡ last ∷ []
+    rest = ap (λ (n : ℕ). drop n entries) place ∙ ap (drop (length front)) is ∙ drop-append_seam front (last ∷ [])
+
+-- what is taken off the end in two parts is taken off at once
+pub parts_left : (entries once twice : List RenameEntry) (count half : ℕ) → half ≤ count → count ≤ length entries → once ≡ take (length entries - half) entries →
+    twice ≡ take (length once - (count - half)) once → twice ≡ take (length entries - count) entries
+parts_left entries once twice count half few all once_is twice_is =
+    twice_is ∙ ap (λ (es : List RenameEntry). take (length es - (count - half)) es) once_is
+    ∙ ap (λ (n : ℕ). take n (take (length entries - half) entries)) (omega (arith, length-take (length entries - half) entries))
+    ∙ take-take (length entries - count) (length entries - half) entries (omega arith)
+
+pub parts_of : (entries once : List RenameEntry) (early late : List RenameEntry) (count half : ℕ) → half ≤ count → count ≤ length entries → once ≡ take (length entries - half) entries →
+    late ≡ map_of (drop (length entries - half) entries) → early ≡ map_of (drop (length once - (count - half)) once) → map_of (early ++ late) ≡ map_of (drop (length entries - count) entries)
+parts_of entries once early late count half few all once_is late_is early_is =
     ap (λ (es : List RenameEntry). map_of (es ++ late)) early_is
-    ∙ ap (λ (es : List RenameEntry). map_of (map_of (map read front) ++ es)) late_is
-    ∙ halves (map read front) (map read back)
-    ∙ ap map_of (sym (map-append read front back))
-    ∙ ap (λ (ys : List A). map_of (map read (ys ++ back))) front_is
-    ∙ ap (λ (ys : List A). map_of (map read (take middle xs ++ ys))) back_is
-    ∙ ap (λ (ys : List A). map_of (map read ys)) (take-append-drop middle xs)
+    ∙ ap (λ (es : List RenameEntry). map_of (map_of (drop (length once - (count - half)) once) ++ es)) late_is
+    ∙ halves (drop (length once - (count - half)) once) (drop (length entries - half) entries)
+    ∙ ap (λ (es : List RenameEntry). map_of (drop (length es - (count - half)) es ++ drop (length entries - half) entries)) once_is
+    ∙ ap (λ (n : ℕ). map_of (drop n (take (length entries - half) entries) ++ drop (length entries - half) entries)) place
+    ∙ ap map_of (sym (drop-append-le (length entries - count) (take (length entries - half) entries) (drop (length entries - half) entries) (omega (arith, length-take (length entries - half) entries))))
+    ∙ ap (λ (es : List RenameEntry). map_of (drop (length entries - count) es)) (take-append-drop (length entries - half) entries)
+  where
+    place : length (take (length entries - half) entries) - (count - half) ≡ length entries - count
+    place = omega (arith, length-take (length entries - half) entries)
 
--- entries are read of what the payloads hold
-pub read_payloads : (found : List (Bor (List ℕ))) → map (λ payload. entry_of (fields_of payload.now)) found ≡ map (λ payload. entry_of (fields_of payload)) (map (λ payload. payload.now) found)
-read_payloads [] = refl
-read_payloads (payload ∷ found) = ap (λ (es : List RenameEntry). entry_of (fields_of payload.now) ∷ es) (read_payloads found)
+-- all of a list is taken off its end
+pub all_taken : (entries : List RenameEntry) (count : ℕ) → count ≡ length entries → drop (length entries - count) entries ≡ entries
+all_taken entries count is = ap (λ (n : ℕ). drop n entries) (let none : length entries - count ≡ 0 = omega arith in none)

@@ -17,10 +17,13 @@ use Rattle.plain_relations.specs.declared.limit.Offset.{Offset}
 use Rattle.plain_relations.specs.declared.subquery_alias.SubqueryAlias.{SubqueryAlias}
 use Rattle.plain_relations.specs.declared.to_df.ToDf.{ToDf}
 use Rattle.plain_relations.specs.declared.deduplicate.Deduplicate.{Deduplicate}
-use Rattle.plain_relations.specs.declared.renamed.RenameEntry.{RenameEntry}
+use Rattle.plain_relations.specs.declared.rename_entry.RenameEntry.{RenameEntry}
 use Rattle.plain_relations.specs.declared.renamed.WithColumnsRenamed.{WithColumnsRenamed}
 use Rattle.plain_relations.specs.declared.set_operation.SetOperation.{SetOperation}
-use Rattle.plain_relations.specs.Maps.{entry_of, map_of, map_in}
+use Rattle.plain_relations.specs.declared.rename_map.RenameMap.{RenameMap}
+use Rattle.plain_relations.specs.Maps.{entry_of, map_of}
+use Rattle.plain_relations.specs.RenameMaps.{map_in}
+use Rattle.plain_relations.proofs.SameMaps.{same_rename_map}
 use Rattle.plain_relations.specs.Plain.{limit_of, offset_of, subquery_alias_of, to_df_of, deduplicate_of, renamed_of, set_operation_of}
 use Rattle.plain_relations.specs.Spelled.{limit_rest, offset_rest, subquery_alias_rest, to_df_rest, deduplicate_rest, entry_fields, renamed_rest, set_operation_rest}
 use Rattle.plain_relations.specs.Bits.{HasLimitBits, HasOffsetBits, HasSubqueryAliasBits, HasToDfBits, HasDeduplicateBits, HasEntryBits, HasRenamedBits, HasSetOperationBits}
@@ -159,7 +162,7 @@ items_by_depth : (level : ℕ) (entries : List RenameEntry) → AllByRecursion H
 items_by_depth level [] bits short deep = tt
 items_by_depth level (entry ∷ entries) bits short deep = items_back level (entry ∷ entries) bits short (omega arith)
 
-same_renamed : {R : Type 0} {input : R} {entries entries2 : List RenameEntry} → entries ≡ entries2 →
+same_renamed : {R : Type 0} {input : R} {entries entries2 : RenameMap} → entries ≡ entries2 →
     ◌≡◌ {A = WithColumnsRenamed R} (record { input = input; rename_map = entries }) (record { input = input; rename_map = entries2 })
 same_renamed entries_are = rw entries_are refl
 
@@ -170,22 +173,23 @@ renamed_back {R} level it bits short deep =
     one_rest level 1 2 kinds.WithColumnsRenamed rest (renamed_of it.input) it piece (omega arith) (λ whole reads. same_renamed (same whole reads))
   where
     entries : List RenameEntry
-    entries = it.rename_map
+    entries = it.rename_map.entries
 
     rest : List Field
     rest = renamed_rest it
 
     items : AllByRecursion (ItemBack level kinds.RenameEntry entry_fields entry_of) entries
-    items = items_by_depth level entries bits.entries (short_messages entry_fields 2 entries short) deep
+    items = items_by_depth level entries bits (short_messages entry_fields 2 entries short) deep
 
     piece : Piece level kinds.WithColumnsRenamed 2 rest
     piece = messages_piece level kinds.WithColumnsRenamed kinds.RenameEntry 2 entry_fields entry_of entries is_2 refl items
 
-    same : (whole : List Field) → ReadsAs 2 whole rest → map_in whole ≡ entries
+    same : (whole : List Field) → ReadsAs 2 whole rest → map_in whole ≡ it.rename_map
     same whole reads =
-        ap (λ (ps : List (List ℕ)). map_of (map (λ payload. entry_of (fields_of payload)) ps)) (reads.payloads_are ∙ payloads_repeated 2 (map (λ entry. spell (entry_fields entry)) entries))
+        same_rename_map (map_in whole) it.rename_map
+        (ap (λ (ps : List (List ℕ)). map_of (map (λ payload. entry_of (fields_of payload)) ps)) (reads.payloads_are ∙ payloads_repeated 2 (map (λ entry. spell (entry_fields entry)) entries))
         ∙ ap map_of (messages_read level kinds.RenameEntry entry_fields entry_of entries items)
-        ∙ rising_same entries bits.rising
+        ∙ rising_same entries it.rename_map.rising)
 
 -- ---- set operations
 

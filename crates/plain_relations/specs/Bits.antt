@@ -1,4 +1,4 @@
--- That the numbers in a message have the bits of their types, that its texts are UTF-8, and that the keys of its map rise.
+-- That the numbers in a message have the bits of their types, and that its texts are UTF-8.
 use Rattle.std.specs.Prelude.{FitsSigned, IsUtf8}
 use Rattle.std.specs.Int.{w32}
 use Rattle.std.specs.List.{AllByRecursion}
@@ -7,10 +7,9 @@ use Rattle.plain_relations.specs.declared.limit.Offset.{Offset}
 use Rattle.plain_relations.specs.declared.subquery_alias.SubqueryAlias.{SubqueryAlias}
 use Rattle.plain_relations.specs.declared.to_df.ToDf.{ToDf}
 use Rattle.plain_relations.specs.declared.deduplicate.Deduplicate.{Deduplicate}
-use Rattle.plain_relations.specs.declared.renamed.RenameEntry.{RenameEntry}
+use Rattle.plain_relations.specs.declared.rename_entry.RenameEntry.{RenameEntry}
 use Rattle.plain_relations.specs.declared.renamed.WithColumnsRenamed.{WithColumnsRenamed}
 use Rattle.plain_relations.specs.declared.set_operation.SetOperation.{SetOperation}
-use Rattle.plain_relations.specs.Maps.{KeysRise}
 
 abbrev pub HasLimitBits : {R : Type 0} → Limit R → Type 0
 HasLimitBits limit = FitsSigned w32 limit.number
@@ -32,9 +31,8 @@ pub record HasEntryBits (entry : RenameEntry) : Type 0 where
   pub key : IsUtf8 entry.key
   pub value : IsUtf8 entry.value
 
-pub record HasRenamedBits {R : Type 0} (renamed : WithColumnsRenamed R) : Type 0 where
-  pub entries : AllByRecursion HasEntryBits renamed.rename_map
-  pub rising : KeysRise renamed.rename_map
+abbrev pub HasRenamedBits : {R : Type 0} → WithColumnsRenamed R → Type 0
+HasRenamedBits renamed = AllByRecursion HasEntryBits renamed.rename_map.entries
 
 abbrev pub HasSetOperationBits : {R : Type 0} → SetOperation R → Type 0
 HasSetOperationBits operation = FitsSigned w32 operation.set_op_type

@@ -4,7 +4,7 @@ use Rattle.std.specs.declared.cmp.Ordering.{Ordering}
 use Rattle.std.specs.declared.cmp.Ordering.TheVariants.{Less, Greater}
 use Rattle.std.specs.Ordering.{nat_cmp}
 use Rattle.std.specs.Cmp.Lexicographic.{slice_cmp}
-use Rattle.plain_relations.specs.declared.renamed.RenameEntry.{RenameEntry}
+use Rattle.plain_relations.specs.declared.rename_entry.RenameEntry.{RenameEntry}
 
 -- by the bytes of their first keys; one that has none comes last
 abbrev pub order_of_first : List RenameEntry → List RenameEntry → Ordering

@@ -1,5 +1,7 @@
 -- The meanings of messages, and their spellings.
 pub mod Maps
+pub mod Rising
+pub mod RenameMaps
 pub mod Plain
 pub mod Spelled
 pub mod Bits

@@ -4,8 +4,7 @@ use Rattle.std.specs.Ordering.{nat_cmp, is_lt, is_eq}
 use Rattle.std.specs.Cmp.Lexicographic.{slice_cmp}
 use Rattle.proto_fields.specs.Fields.{Field}
 use Rattle.proto_fields.specs.Readings.{text_field, last_some}
-use Rattle.expression_messages.specs.Messages.{messages_at}
-use Rattle.plain_relations.specs.declared.renamed.RenameEntry.{RenameEntry}
+use Rattle.plain_relations.specs.declared.rename_entry.RenameEntry.{RenameEntry}
 
 -- key 1, value 2
 abbrev pub entry_of : List Field → RenameEntry
@@ -24,10 +23,6 @@ put_before entry (next ∷ others) =
 unfoldable pub map_of : List RenameEntry → List RenameEntry
 map_of [] = []
 map_of (entry ∷ later) = put_before entry (map_of later)
-
--- the map that a message's fields hold
-abbrev pub map_in : List Field → List RenameEntry
-map_in fields = map_of (messages_at entry_of 2 fields)
 
 -- ---- the same in words
 

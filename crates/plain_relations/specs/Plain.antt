@@ -9,7 +9,7 @@ use Rattle.plain_relations.specs.declared.to_df.ToDf.{ToDf}
 use Rattle.plain_relations.specs.declared.deduplicate.Deduplicate.{Deduplicate}
 use Rattle.plain_relations.specs.declared.renamed.WithColumnsRenamed.{WithColumnsRenamed}
 use Rattle.plain_relations.specs.declared.set_operation.SetOperation.{SetOperation}
-use Rattle.plain_relations.specs.Maps.{map_in}
+use Rattle.plain_relations.specs.RenameMaps.{map_in}
 
 -- input 1, limit 2
 abbrev pub limit_of : {R : Type 0} → R → List Field → Limit R

@@ -9,7 +9,7 @@ use Rattle.plain_relations.specs.declared.limit.Offset.{Offset}
 use Rattle.plain_relations.specs.declared.subquery_alias.SubqueryAlias.{SubqueryAlias}
 use Rattle.plain_relations.specs.declared.to_df.ToDf.{ToDf}
 use Rattle.plain_relations.specs.declared.deduplicate.Deduplicate.{Deduplicate}
-use Rattle.plain_relations.specs.declared.renamed.RenameEntry.{RenameEntry}
+use Rattle.plain_relations.specs.declared.rename_entry.RenameEntry.{RenameEntry}
 use Rattle.plain_relations.specs.declared.renamed.WithColumnsRenamed.{WithColumnsRenamed}
 use Rattle.plain_relations.specs.declared.set_operation.SetOperation.{SetOperation}
 
@@ -39,7 +39,7 @@ entry_fields entry = payload_fields 1 entry.key ++ payload_fields 2 entry.value
 
 -- rename_columns_map 2
 abbrev pub renamed_rest : {R : Type 0} → WithColumnsRenamed R → List Field
-renamed_rest renamed = messages_fields entry_fields 2 renamed.rename_map
+renamed_rest renamed = messages_fields entry_fields 2 renamed.rename_map.entries
 
 -- set_op_type 3, is_all 4, by_name 5, allow_missing_columns 6
 abbrev pub set_operation_rest : {R : Type 0} → SetOperation R → List Field

@@ -5,6 +5,8 @@
 mod deduplicate;
 mod laws;
 mod limit;
+mod map_merging;
+mod rename_entry;
 mod rename_map;
 mod renamed;
 mod renamed_writing;
@@ -20,9 +22,9 @@ pub use limit::{
     Limit, Offset, limit_like, limit_over, limit_rest_size, offset_like, offset_over,
     offset_rest_size, put_limit_rest, put_offset_rest,
 };
-pub use renamed::{
-    RenameEntry, WithColumnsRenamed, renamed_like, renamed_over, renamed_rest_depth,
-};
+pub use rename_entry::RenameEntry;
+pub use rename_map::RenameMap;
+pub use renamed::{WithColumnsRenamed, renamed_like, renamed_over, renamed_rest_depth};
 pub use renamed_writing::{put_renamed_rest, renamed_rest_size};
 pub use set_operation::{
     SetOperation, put_set_operation_rest, set_operation_like, set_operation_over,

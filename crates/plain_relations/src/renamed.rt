@@ -3,36 +3,19 @@ ghost use Rattle.proto_fields.specs.Views.{seen};
 ghost use Rattle.plain_relations.specs.Depths as depths;
 ghost use Rattle.plain_relations.specs.Plain as plain;
 
-use crate::rename_map::map_from;
-use cn_base::{Boxed, Copied, List, OutOfMemory, Text};
+use crate::RenameMap;
+use crate::rename_entry::entries_from;
+use cn_base::{Boxed, Copied, OutOfMemory};
 use proto_fields::Record;
 use std::alloc::Global;
-
-/// An entry of the map of WithColumnsRenamed (Protocol Buffers Encoding, "Maps").
-#[derive(Debug, Drop)]
-pub struct RenameEntry {
-    /// The name of a column.
-    pub key: Text,
-    /// Its new name.
-    pub value: Text,
-}
 
 /// A relation some of whose columns have new names (`relations.proto`, WithColumnsRenamed).
 #[derive(Debug, Drop)]
 pub struct WithColumnsRenamed<R> {
     /// `Other(0)` where no relation is there.
     pub input: Boxed<R>,
-    /// The map (field `rename_columns_map`): one entry a key, in the order of the keys' bytes.
-    pub rename_map: List<RenameEntry>,
-}
-
-impl Copied for RenameEntry {
-    fn copy(&self, alloc: Global) -> Result<RenameEntry, OutOfMemory> {
-        Ok(RenameEntry {
-            key: self.key.copy(alloc)?,
-            value: self.value.copy(alloc)?,
-        })
-    }
+    /// The map (field `rename_columns_map`).
+    pub rename_map: RenameMap,
 }
 
 impl<R: Copied + Drop> Copied for WithColumnsRenamed<R> {
@@ -49,9 +32,10 @@ pub fn renamed_over<R: Drop>(
 ) -> Result<WithColumnsRenamed<R>, OutOfMemory>
     ensures { IfOk result (λ it. it ≡ plain.renamed_of input (seen items.now)) }
 {
+    let entries = entries_from(alloc, items)?;
     Ok(WithColumnsRenamed {
         input: Boxed::new(alloc, input)?,
-        rename_map: map_from(alloc, items)?,
+        rename_map: RenameMap::of(alloc, entries)?,
     })
 }
 

@@ -38,7 +38,7 @@ pub fn put_renamed_rest<R>(
 ) -> Result<(), OutOfMemory>
     ensures { OnOk result (out.new ≡ spell (spelled.renamed_rest it.now) ++ out.old) }
 {
-    put_entries(out, it.rename_map.as_slice())
+    put_entries(out, it.rename_map.entries())
 }
 
 /// How many bytes the entry's message takes; 2^64 - 1 where it is above that.
@@ -64,5 +64,5 @@ fn entries_size(entries: &[RenameEntry]) -> u64
 pub fn renamed_rest_size<R>(it: &WithColumnsRenamed<R>) -> u64
     ensures { result ≡ size_of (spelled.renamed_rest it.now) }
 {
-    entries_size(it.rename_map.as_slice())
+    entries_size(it.rename_map.entries())
 }

@@ -1,7 +1,7 @@
 -- What is found so far, and the map of what is left, is the whole map.
 use Rattle.std.proofs.Common.{◌≡◌, ◌+◌, ◌++◌}
 use Rattle.plain_relations.specs.Maps.{map_of, KeysRise}
-use Rattle.plain_relations.proofs.rename_map.merged_maps.Given as goal
+use Rattle.plain_relations.proofs.map_merging.merged_maps.Given as goal
 
 abbrev pub invariant-loop-entry : goal.invariant-loop-entry
 invariant-loop-entry l = record {

@@ -1,7 +1,7 @@
 -- The first entry of one map is taken, or of both.
 use Rattle.std.proofs.Common.{sym, ◌∙◌, rules}
 use Rattle.plain_relations.proofs.Merging.{less_taken, equal_taken, greater_taken}
-use Rattle.plain_relations.proofs.rename_map.next_entry.Goals as goal
+use Rattle.plain_relations.proofs.map_merging.next_entry.Goals as goal
 
 pub returns-in-Less : goal.returns-in-Less
 returns-in-Less c =

@@ -13,7 +13,7 @@ pub loop-index-preserved : goal.loop-index-preserved
 loop-index-preserved c =
     let entry = c.index-entries-index.result in
     let left = messages_fields entry_fields 2 (take (c.loop-index.index - 1) c.args.entries.now) in
-    let head = c.in_ok-put_message_head.ensures (spell (entry_fields entry)) c.loop-index.out c.in_ok-put_entry.ensures (sym c.len-end.ensures) in
+    let head = c.in_ok-put_message_head.ensures.ok (spell (entry_fields entry)) c.loop-index.out c.in_ok-put_entry.ensures (sym c.len-end.ensures) in
     ap (λ (bytes : List ℕ). spell left ++ bytes) head
     ∙ messages_more entry_fields 2 c.args.entries.now c.loop-index.index entry c.loop-index.out (omega arith) (omega arith) c.index-entries-index.is
     ∙ c.loop-index.invariant
