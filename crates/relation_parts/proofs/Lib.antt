@@ -1,1 +1,2 @@
 pub mod PartsBack
+pub mod PartsValid
