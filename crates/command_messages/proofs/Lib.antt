@@ -1,1 +1,2 @@
 pub mod CommandBack
+pub mod CommandValid

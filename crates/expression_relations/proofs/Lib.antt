@@ -1,3 +1,4 @@
 mod Groups
 pub mod Back
 pub mod Agree
+pub mod Valid

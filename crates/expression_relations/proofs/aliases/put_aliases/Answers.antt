@@ -13,7 +13,7 @@ pub loop-index-preserved : goal.loop-index-preserved
 loop-index-preserved c =
     let alias = c.index-aliases-index.result in
     let left = messages_fields alias_fields c.args.number (take (c.loop-index.index - 1) c.args.aliases.now) in
-    let head = c.in_ok-put_message_head.ensures (spell (alias_fields alias)) c.loop-index.out c.in_ok-put_alias.ensures (sym c.len-end.ensures) in
+    let head = c.in_ok-put_message_head.ensures.ok (spell (alias_fields alias)) c.loop-index.out c.in_ok-put_alias.ensures (sym c.len-end.ensures) in
     ap (λ (bytes : List ℕ). spell left ++ bytes) head
     ∙ messages_more alias_fields c.args.number c.args.aliases.now c.loop-index.index alias c.loop-index.out (omega arith) (omega arith) c.index-aliases-index.is
     ∙ c.loop-index.invariant

@@ -13,7 +13,7 @@ pub loop-index-preserved : goal.loop-index-preserved
 loop-index-preserved c =
     let order = c.index-orders-index.result in
     let left = messages_fields sort_order_fields c.args.number (take (c.loop-index.index - 1) c.args.orders.now) in
-    let head = c.in_ok-put_message_head.ensures (spell (sort_order_fields order)) c.loop-index.out c.in_ok-put_sort_order.ensures (sym c.len-end.ensures) in
+    let head = c.in_ok-put_message_head.ensures.ok (spell (sort_order_fields order)) c.loop-index.out c.in_ok-put_sort_order.ensures (sym c.len-end.ensures) in
     ap (λ (bytes : List ℕ). spell left ++ bytes) head
     ∙ messages_more sort_order_fields c.args.number c.args.orders.now c.loop-index.index order c.loop-index.out (omega arith) (omega arith) c.index-orders-index.is
     ∙ c.loop-index.invariant
