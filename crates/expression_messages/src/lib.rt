@@ -45,6 +45,3 @@ pub use type_depths::type_depth;
 pub use type_reading::type_from;
 pub use type_sizes::type_size;
 pub use type_writing::put_type;
-
-#[cfg(test)]
-mod tests;

@@ -19,14 +19,14 @@ pub use finding::find_fault;
 pub use kind::{MessageKind, PayloadKind};
 pub use laws::{
     fault_is_one, faulty_have_no_fields, fields_join, fields_of_records, first_fault_is_fault,
-    others_are_skipped, readings_are_valid, readings_join, scalars_return, sound_by_fields, sound_have_no_fault,
-    sound_is_not_faulty, sound_or_faulty, spelled_is_read, spelled_is_sound, texts_are_kept, written_is_read,
+    others_are_skipped, readings_are_valid, readings_join, scalars_return, sound_by_fields,
+    sound_have_no_fault, sound_is_not_faulty, sound_or_faulty, spelled_is_read, spelled_is_sound,
+    texts_are_kept, written_is_read,
 };
 pub use oneof::{Member, latest};
 pub use reading::{
     bool_field, int32_field, int64_field, last_number, last_payload, merged, optional_bool,
-    optional_bytes, optional_int32, optional_int64, optional_text, payloads,
-    text_field, texts,
+    optional_bytes, optional_int32, optional_int64, optional_text, payloads, text_field, texts,
 };
 pub use record::{Content, Record, records};
 pub use size::{
