@@ -4,3 +4,4 @@ pub mod Numbers
 pub mod MemberBack
 pub mod MemberAgrees
 pub mod OverInputs
+pub mod MemberValid

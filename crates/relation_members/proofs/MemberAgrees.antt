@@ -15,7 +15,7 @@ use Rattle.expression_relations.specs.Reading.{project_of, filter_of, join_of, s
 use Rattle.expression_relations.proofs.Agree.{project_agrees, filter_agrees, join_agrees, sort_agrees, aggregate_agrees, drop_columns_agrees, with_columns_agrees}
 use Rattle.relation_members.specs.declared.member.RelationMember.{RelationMember}
 use Rattle.relation_members.specs.declared.member.RelationMember.TheVariants as V
-use Rattle.relation_members.specs.Members.{member_of, member_at}
+use Rattle.relation_members.specs.Members.{relation_member_of, member_at}
 use Rattle.relation_members.proofs.Numbers.{read_at, project_at, filter_at, join_at, set_operation_at, sort_at, limit_at, aggregate_at, local_relation_at, offset_at, deduplicate_at, range_at, subquery_alias_at, to_df_at, renamed_at, drop_columns_at, with_columns_at, outside_at, OfNumbers, by_number}
 
 -- what two readers agree on: all messages of relations, one after another, that are sound with so many levels
@@ -36,10 +36,10 @@ input_agrees level number kind read read_more agree is fields sound =
 
 unary_agrees : {R A : Type 0} (level number more : ℕ) (kind : MessageKind) (read read_more : List Field → R) (of of_more : R → List Field → A) (made : A → RelationMember R) →
     InputsAgree level read read_more → payload_of kind 1 ≡ Message kinds.Relation →
-    ((fields : List Field) → member_of read level number fields ≡ made (of (read (message_at 1 fields)) fields)) →
-    ((fields : List Field) → member_of read_more more number fields ≡ made (of_more (read_more (message_at 1 fields)) fields)) →
+    ((fields : List Field) → relation_member_of read level number fields ≡ made (of (read (message_at 1 fields)) fields)) →
+    ((fields : List Field) → relation_member_of read_more more number fields ≡ made (of_more (read_more (message_at 1 fields)) fields)) →
     ((input : R) (fields : List Field) → AreSoundIn level kind fields → of_more input fields ≡ of input fields) →
-    (fields : List Field) → AreSoundIn level kind fields → member_of read_more more number fields ≡ member_of read level number fields
+    (fields : List Field) → AreSoundIn level kind fields → relation_member_of read_more more number fields ≡ relation_member_of read level number fields
 unary_agrees {R} {A} level number more kind read read_more of of_more made agree over computes computes_more same fields sound =
     computes_more fields
     ∙ ap made (same (read_more (message_at 1 fields)) fields sound)
@@ -48,10 +48,10 @@ unary_agrees {R} {A} level number more kind read read_more of of_more made agree
 
 binary_agrees : {R A : Type 0} (level number more : ℕ) (kind : MessageKind) (read read_more : List Field → R) (of of_more : R → R → List Field → A) (made : A → RelationMember R) →
     InputsAgree level read read_more → payload_of kind 1 ≡ Message kinds.Relation → payload_of kind 2 ≡ Message kinds.Relation →
-    ((fields : List Field) → member_of read level number fields ≡ made (of (read (message_at 1 fields)) (read (message_at 2 fields)) fields)) →
-    ((fields : List Field) → member_of read_more more number fields ≡ made (of_more (read_more (message_at 1 fields)) (read_more (message_at 2 fields)) fields)) →
+    ((fields : List Field) → relation_member_of read level number fields ≡ made (of (read (message_at 1 fields)) (read (message_at 2 fields)) fields)) →
+    ((fields : List Field) → relation_member_of read_more more number fields ≡ made (of_more (read_more (message_at 1 fields)) (read_more (message_at 2 fields)) fields)) →
     ((input input2 : R) (fields : List Field) → AreSoundIn level kind fields → of_more input input2 fields ≡ of input input2 fields) →
-    (fields : List Field) → AreSoundIn level kind fields → member_of read_more more number fields ≡ member_of read level number fields
+    (fields : List Field) → AreSoundIn level kind fields → relation_member_of read_more more number fields ≡ relation_member_of read level number fields
 binary_agrees {R} {A} level number more kind read read_more of of_more made agree over over2 computes computes_more same fields sound =
     computes_more fields
     ∙ ap made (same (read_more (message_at 1 fields)) (read_more (message_at 2 fields)) fields sound)
@@ -64,7 +64,7 @@ binary_agrees {R} {A} level number more kind read read_more of of_more made agre
 -- what is read of fields as a member of this number, where they are sound as a message of its kind
 abbrev NumberAgrees : {R : Type 0} → ℕ → ℕ → (List Field → R) → (List Field → R) → ℕ → Type 0
 NumberAgrees level more read read_more number =
-    (fields : List Field) → ((kind : MessageKind) → payload_of kinds.Relation number ≡ Message kind → AreSoundIn level kind fields) → member_of read_more more number fields ≡ member_of read level number fields
+    (fields : List Field) → ((kind : MessageKind) → payload_of kinds.Relation number ≡ Message kind → AreSoundIn level kind fields) → relation_member_of read_more more number fields ≡ relation_member_of read level number fields
 
 numbers_agree : {R : Type 0} (level more : ℕ) (read read_more : List Field → R) → level ≤ more → InputsAgree level read read_more → OfNumbers (NumberAgrees level more read read_more)
 unfolding payload_of

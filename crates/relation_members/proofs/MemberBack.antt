@@ -24,7 +24,7 @@ use Rattle.expression_relations.specs.Spelled.{project_rest, filter_rest, join_r
 use Rattle.expression_relations.proofs.Back.{project_back, filter_back, join_back, sort_back, aggregate_back, drop_columns_back, with_columns_back}
 use Rattle.relation_members.specs.declared.member.RelationMember.{RelationMember}
 use Rattle.relation_members.specs.declared.member.RelationMember.TheVariants as V
-use Rattle.relation_members.specs.Members.{member_of}
+use Rattle.relation_members.specs.Members.{relation_member_of}
 use Rattle.relation_members.specs.Inputs.{first_of, second_of}
 use Rattle.relation_members.specs.Spelled.{member_fields}
 use Rattle.relation_members.specs.Depths.{rest_depth}
@@ -49,7 +49,7 @@ is_member number kind above high is_kind member = record { above = above; is_num
 -- ---- a member without an input, over one and over two
 
 leaf_back : {R A : Type 0} (level number : ℕ) (kind : MessageKind) (fields : List Field) (read : List Field → R) (of : List Field → A) (value : A) (made : A → RelationMember R) → IsMember number kind →
-    IsShort (payload_fields number (spell fields)) → (IsShort fields → IsReadBack (1 + level) kind fields of value) → ((found : List Field) → member_of read level number found ≡ made (of found)) →
+    IsShort (payload_fields number (spell fields)) → (IsShort fields → IsReadBack (1 + level) kind fields of value) → ((found : List Field) → relation_member_of read level number found ≡ made (of found)) →
     FieldBack level (payload_fields number (spell fields)) read (made value)
 leaf_back level number kind fields read of value made is short back computes =
     let few = short_payload number (spell fields) short in
@@ -57,7 +57,7 @@ leaf_back level number kind fields read of value made is short back computes =
 
 unary_back : {R A : Type 0} (level number : ℕ) (kind : MessageKind) (fields : List Field) (read : List Field → R) (input : R) (rest : List Field) (of : R → List Field → A) (value : A) (made : A → RelationMember R) →
     IsMember number kind → payload_of kind 1 ≡ Message kinds.Relation → IsShort (payload_fields number (spell (payload_fields 1 (spell fields) ++ rest))) → IsReadBack level kinds.Relation fields read input →
-    (IsShort rest → RestBack level 1 kind rest (of input) value) → ((found : List Field) → member_of read level number found ≡ made (of (read (message_at 1 found)) found)) →
+    (IsShort rest → RestBack level 1 kind rest (of input) value) → ((found : List Field) → relation_member_of read level number found ≡ made (of (read (message_at 1 found)) found)) →
     FieldBack level (payload_fields number (spell (payload_fields 1 (spell fields) ++ rest))) read (made value)
 unary_back level number kind fields read input rest of value made is over short input_back back computes =
     let whole = payload_fields 1 (spell fields) ++ rest in
@@ -69,7 +69,7 @@ unary_back level number kind fields read input rest of value made is over short 
 binary_back : {R A : Type 0} (level number : ℕ) (kind : MessageKind) (fields fields2 : List Field) (read : List Field → R) (input input2 : R) (rest : List Field) (of : R → R → List Field → A) (value : A) (made : A → RelationMember R) →
     IsMember number kind → payload_of kind 1 ≡ Message kinds.Relation → payload_of kind 2 ≡ Message kinds.Relation →
     IsShort (payload_fields number (spell (payload_fields 1 (spell fields) ++ payload_fields 2 (spell fields2) ++ rest))) → IsReadBack level kinds.Relation fields read input → IsReadBack level kinds.Relation fields2 read input2 →
-    (IsShort rest → RestBack level 2 kind rest (of input input2) value) → ((found : List Field) → member_of read level number found ≡ made (of (read (message_at 1 found)) (read (message_at 2 found)) found)) →
+    (IsShort rest → RestBack level 2 kind rest (of input input2) value) → ((found : List Field) → relation_member_of read level number found ≡ made (of (read (message_at 1 found)) (read (message_at 2 found)) found)) →
     FieldBack level (payload_fields number (spell (payload_fields 1 (spell fields) ++ payload_fields 2 (spell fields2) ++ rest))) read (made value)
 binary_back level number kind fields fields2 read input input2 rest of value made is over over2 short input_back input_back2 back computes =
     let whole = payload_fields 1 (spell fields) ++ payload_fields 2 (spell fields2) ++ rest in

@@ -18,7 +18,7 @@ use Rattle.field_groups.proofs.Members.{no_members, latest_behind}
 use Rattle.field_groups.proofs.Rests.{RestBack, others_above}
 use Rattle.relation_members.specs.declared.member.RelationMember.{RelationMember}
 use Rattle.relation_members.specs.declared.member.RelationMember.TheVariants as V
-use Rattle.relation_members.specs.Members.{member_of, member_at}
+use Rattle.relation_members.specs.Members.{relation_member_of, member_at}
 use Rattle.field_groups.proofs.Scalars.{is_1, is_2}
 
 -- ---- messages over inputs
@@ -110,7 +110,7 @@ pub record FieldBack {R : Type 0} (level : ℕ) (fields : List Field) (read : Li
 -- the field of a message that is read back
 pub field_back : {R A : Type 0} (level number : ℕ) (kind : MessageKind) (fields : List Field) (read : List Field → R) (of : List Field → A) (value : A) (made : A → RelationMember R) →
     1 < number → IsNumber number → payload_of kinds.Relation number ≡ Message kind → is_payload_member kinds.Relation number ≡ true → IsShort fields →
-    ((found : List Field) → member_of read level number found ≡ made (of found)) → IsReadBack (1 + level) kind fields of value →
+    ((found : List Field) → relation_member_of read level number found ≡ made (of found)) → IsReadBack (1 + level) kind fields of value →
     FieldBack level (payload_fields number (spell fields)) read (made value)
 field_back {R} {A} level number kind fields read of value made above is_number is member short computes back =
     record { number = number; above = above; piece = piece; same = same }
@@ -127,6 +127,6 @@ field_back {R} {A} level number kind fields read of value made above is_number i
         let found = latest_behind kinds.Relation number front payload (no_members kinds.Relation 1 front (record { payload = refl; varint = refl }) numbered) member in
         let reads = behind number front (payload_fields number payload) (are_others number 1 front numbered (omega (arith, above))) in
         ap (λ (m : Option Member). unwrap_or (option_map (member_at read level) m) (V.Other 0)) found
-        ∙ ap (member_of read level number) (message_at-one number whole payload (reads.payloads_are ∙ payloads_one number payload))
+        ∙ ap (relation_member_of read level number) (message_at-one number whole payload (reads.payloads_are ∙ payloads_one number payload))
         ∙ computes (fields_of payload)
         ∙ ap made back.same

@@ -7,78 +7,78 @@ use Rattle.relation_parts.specs.Parts.{read_of, range_of, local_relation_of}
 use Rattle.plain_relations.specs.Plain.{limit_of, offset_of, subquery_alias_of, to_df_of, deduplicate_of, renamed_of, set_operation_of}
 use Rattle.expression_relations.specs.Reading.{project_of, filter_of, join_of, sort_of, aggregate_of, drop_columns_of, with_columns_of}
 use Rattle.relation_members.specs.declared.member.RelationMember.TheVariants as V
-use Rattle.relation_members.specs.Members.{leaf_of, unary_of, binary_of, input_count, member_of}
+use Rattle.relation_members.specs.Members.{leaf_of, unary_of, binary_of, input_count, relation_member_of}
 
 -- ---- the numbers of the profile
 
-pub read_at : {R : Type 0} (inner : List Field → R) (level : ℕ) (fields : List Field) → member_of inner level 2 fields ≡ V.Read (read_of fields)
-unfolding member_of input_count leaf_of
+pub read_at : {R : Type 0} (inner : List Field → R) (level : ℕ) (fields : List Field) → relation_member_of inner level 2 fields ≡ V.Read (read_of fields)
+unfolding relation_member_of input_count leaf_of
 read_at inner level fields = refl
 
-pub project_at : {R : Type 0} (inner : List Field → R) (level : ℕ) (fields : List Field) → member_of inner level 3 fields ≡ V.Project (project_of level (inner (message_at 1 fields)) fields)
-unfolding member_of input_count unary_of
+pub project_at : {R : Type 0} (inner : List Field → R) (level : ℕ) (fields : List Field) → relation_member_of inner level 3 fields ≡ V.Project (project_of level (inner (message_at 1 fields)) fields)
+unfolding relation_member_of input_count unary_of
 project_at inner level fields = refl
 
-pub filter_at : {R : Type 0} (inner : List Field → R) (level : ℕ) (fields : List Field) → member_of inner level 4 fields ≡ V.Filter (filter_of level (inner (message_at 1 fields)) fields)
-unfolding member_of input_count unary_of
+pub filter_at : {R : Type 0} (inner : List Field → R) (level : ℕ) (fields : List Field) → relation_member_of inner level 4 fields ≡ V.Filter (filter_of level (inner (message_at 1 fields)) fields)
+unfolding relation_member_of input_count unary_of
 filter_at inner level fields = refl
 
 pub join_at : {R : Type 0} (inner : List Field → R) (level : ℕ) (fields : List Field) →
-    member_of inner level 5 fields ≡ V.Join (join_of level (inner (message_at 1 fields)) (inner (message_at 2 fields)) fields)
-unfolding member_of input_count binary_of
+    relation_member_of inner level 5 fields ≡ V.Join (join_of level (inner (message_at 1 fields)) (inner (message_at 2 fields)) fields)
+unfolding relation_member_of input_count binary_of
 join_at inner level fields = refl
 
 pub set_operation_at : {R : Type 0} (inner : List Field → R) (level : ℕ) (fields : List Field) →
-    member_of inner level 6 fields ≡ V.SetOperation (set_operation_of (inner (message_at 1 fields)) (inner (message_at 2 fields)) fields)
-unfolding member_of input_count binary_of
+    relation_member_of inner level 6 fields ≡ V.SetOperation (set_operation_of (inner (message_at 1 fields)) (inner (message_at 2 fields)) fields)
+unfolding relation_member_of input_count binary_of
 set_operation_at inner level fields = refl
 
-pub sort_at : {R : Type 0} (inner : List Field → R) (level : ℕ) (fields : List Field) → member_of inner level 7 fields ≡ V.Sort (sort_of level (inner (message_at 1 fields)) fields)
-unfolding member_of input_count unary_of
+pub sort_at : {R : Type 0} (inner : List Field → R) (level : ℕ) (fields : List Field) → relation_member_of inner level 7 fields ≡ V.Sort (sort_of level (inner (message_at 1 fields)) fields)
+unfolding relation_member_of input_count unary_of
 sort_at inner level fields = refl
 
-pub limit_at : {R : Type 0} (inner : List Field → R) (level : ℕ) (fields : List Field) → member_of inner level 8 fields ≡ V.Limit (limit_of (inner (message_at 1 fields)) fields)
-unfolding member_of input_count unary_of
+pub limit_at : {R : Type 0} (inner : List Field → R) (level : ℕ) (fields : List Field) → relation_member_of inner level 8 fields ≡ V.Limit (limit_of (inner (message_at 1 fields)) fields)
+unfolding relation_member_of input_count unary_of
 limit_at inner level fields = refl
 
-pub aggregate_at : {R : Type 0} (inner : List Field → R) (level : ℕ) (fields : List Field) → member_of inner level 9 fields ≡ V.Aggregate (aggregate_of level (inner (message_at 1 fields)) fields)
-unfolding member_of input_count unary_of
+pub aggregate_at : {R : Type 0} (inner : List Field → R) (level : ℕ) (fields : List Field) → relation_member_of inner level 9 fields ≡ V.Aggregate (aggregate_of level (inner (message_at 1 fields)) fields)
+unfolding relation_member_of input_count unary_of
 aggregate_at inner level fields = refl
 
-pub local_relation_at : {R : Type 0} (inner : List Field → R) (level : ℕ) (fields : List Field) → member_of inner level 11 fields ≡ V.LocalRelation (local_relation_of fields)
-unfolding member_of input_count leaf_of
+pub local_relation_at : {R : Type 0} (inner : List Field → R) (level : ℕ) (fields : List Field) → relation_member_of inner level 11 fields ≡ V.LocalRelation (local_relation_of fields)
+unfolding relation_member_of input_count leaf_of
 local_relation_at inner level fields = refl
 
-pub offset_at : {R : Type 0} (inner : List Field → R) (level : ℕ) (fields : List Field) → member_of inner level 13 fields ≡ V.Offset (offset_of (inner (message_at 1 fields)) fields)
-unfolding member_of input_count unary_of
+pub offset_at : {R : Type 0} (inner : List Field → R) (level : ℕ) (fields : List Field) → relation_member_of inner level 13 fields ≡ V.Offset (offset_of (inner (message_at 1 fields)) fields)
+unfolding relation_member_of input_count unary_of
 offset_at inner level fields = refl
 
-pub deduplicate_at : {R : Type 0} (inner : List Field → R) (level : ℕ) (fields : List Field) → member_of inner level 14 fields ≡ V.Deduplicate (deduplicate_of (inner (message_at 1 fields)) fields)
-unfolding member_of input_count unary_of
+pub deduplicate_at : {R : Type 0} (inner : List Field → R) (level : ℕ) (fields : List Field) → relation_member_of inner level 14 fields ≡ V.Deduplicate (deduplicate_of (inner (message_at 1 fields)) fields)
+unfolding relation_member_of input_count unary_of
 deduplicate_at inner level fields = refl
 
-pub range_at : {R : Type 0} (inner : List Field → R) (level : ℕ) (fields : List Field) → member_of inner level 15 fields ≡ V.Range (range_of fields)
-unfolding member_of input_count leaf_of
+pub range_at : {R : Type 0} (inner : List Field → R) (level : ℕ) (fields : List Field) → relation_member_of inner level 15 fields ≡ V.Range (range_of fields)
+unfolding relation_member_of input_count leaf_of
 range_at inner level fields = refl
 
-pub subquery_alias_at : {R : Type 0} (inner : List Field → R) (level : ℕ) (fields : List Field) → member_of inner level 16 fields ≡ V.SubqueryAlias (subquery_alias_of (inner (message_at 1 fields)) fields)
-unfolding member_of input_count unary_of
+pub subquery_alias_at : {R : Type 0} (inner : List Field → R) (level : ℕ) (fields : List Field) → relation_member_of inner level 16 fields ≡ V.SubqueryAlias (subquery_alias_of (inner (message_at 1 fields)) fields)
+unfolding relation_member_of input_count unary_of
 subquery_alias_at inner level fields = refl
 
-pub to_df_at : {R : Type 0} (inner : List Field → R) (level : ℕ) (fields : List Field) → member_of inner level 18 fields ≡ V.ToDf (to_df_of (inner (message_at 1 fields)) fields)
-unfolding member_of input_count unary_of
+pub to_df_at : {R : Type 0} (inner : List Field → R) (level : ℕ) (fields : List Field) → relation_member_of inner level 18 fields ≡ V.ToDf (to_df_of (inner (message_at 1 fields)) fields)
+unfolding relation_member_of input_count unary_of
 to_df_at inner level fields = refl
 
-pub renamed_at : {R : Type 0} (inner : List Field → R) (level : ℕ) (fields : List Field) → member_of inner level 19 fields ≡ V.WithColumnsRenamed (renamed_of (inner (message_at 1 fields)) fields)
-unfolding member_of input_count unary_of
+pub renamed_at : {R : Type 0} (inner : List Field → R) (level : ℕ) (fields : List Field) → relation_member_of inner level 19 fields ≡ V.WithColumnsRenamed (renamed_of (inner (message_at 1 fields)) fields)
+unfolding relation_member_of input_count unary_of
 renamed_at inner level fields = refl
 
-pub drop_columns_at : {R : Type 0} (inner : List Field → R) (level : ℕ) (fields : List Field) → member_of inner level 21 fields ≡ V.DropColumns (drop_columns_of level (inner (message_at 1 fields)) fields)
-unfolding member_of input_count unary_of
+pub drop_columns_at : {R : Type 0} (inner : List Field → R) (level : ℕ) (fields : List Field) → relation_member_of inner level 21 fields ≡ V.DropColumns (drop_columns_of level (inner (message_at 1 fields)) fields)
+unfolding relation_member_of input_count unary_of
 drop_columns_at inner level fields = refl
 
-pub with_columns_at : {R : Type 0} (inner : List Field → R) (level : ℕ) (fields : List Field) → member_of inner level 23 fields ≡ V.WithColumns (with_columns_of level (inner (message_at 1 fields)) fields)
-unfolding member_of input_count unary_of
+pub with_columns_at : {R : Type 0} (inner : List Field → R) (level : ℕ) (fields : List Field) → relation_member_of inner level 23 fields ≡ V.WithColumns (with_columns_of level (inner (message_at 1 fields)) fields)
+unfolding relation_member_of input_count unary_of
 with_columns_at inner level fields = refl
 
 -- ---- the others
@@ -109,8 +109,8 @@ outside_count number out =
     rw (out.join, out.set_operation, out.project, out.filter, out.sort, out.limit)
     (rw (out.aggregate, out.offset, out.deduplicate, out.subquery_alias, out.to_df) (rw (out.renamed, out.drop_columns, out.with_columns) refl))
 
-pub outside_at : {R : Type 0} (inner : List Field → R) (level number : ℕ) (fields : List Field) → IsOutside number → member_of inner level number fields ≡ V.Other number
-unfolding member_of leaf_of
+pub outside_at : {R : Type 0} (inner : List Field → R) (level number : ℕ) (fields : List Field) → IsOutside number → relation_member_of inner level number fields ≡ V.Other number
+unfolding relation_member_of leaf_of
 outside_at inner level number fields out = rw (outside_count number out) (rw (out.read, out.local_relation, out.range) refl)
 
 -- ---- a fact of every number

@@ -5,7 +5,7 @@ use Rattle.plain_relations.specs.Depths.{renamed_depth}
 use Rattle.expression_relations.specs.Depths.{project_depth, filter_depth, join_depth, sort_depth, aggregate_depth, drop_columns_depth, with_columns_depth}
 use Rattle.relation_members.specs.declared.member.RelationMember.{RelationMember}
 use Rattle.relation_members.specs.declared.member.RelationMember.TheVariants as V
-use Rattle.relation_members.specs.Inputs.{number_of, first_of, second_of}
+use Rattle.relation_members.specs.Inputs.{member_number_of, first_of, second_of}
 
 -- in the fields besides its inputs
 abbrev pub rest_depth : {R : Type 0} → RelationMember R → ℕ
@@ -30,4 +30,4 @@ rest_depth (V.Other number) = 0
 
 -- a member's message and what is nested in it, where a relation is so deep; 0 where it is outside the profile
 abbrev pub member_depth : {R : Type 0} → (R → ℕ) → RelationMember R → ℕ
-member_depth inner member = unwrap_or (option_map (λ number. 1 + max (max (unwrap_or (option_map inner (first_of member)) 0) (unwrap_or (option_map inner (second_of member)) 0)) (rest_depth member)) (number_of member)) 0
+member_depth inner member = unwrap_or (option_map (λ number. 1 + max (max (unwrap_or (option_map inner (first_of member)) 0) (unwrap_or (option_map inner (second_of member)) 0)) (rest_depth member)) (member_number_of member)) 0

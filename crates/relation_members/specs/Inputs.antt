@@ -4,25 +4,25 @@ use Rattle.relation_members.specs.declared.member.RelationMember.{RelationMember
 use Rattle.relation_members.specs.declared.member.RelationMember.TheVariants as V
 
 -- the number of its field; what is outside the profile has no spelling
-abbrev pub number_of : {R : Type 0} → RelationMember R → Option ℕ
-number_of (V.Read it) = Some 2
-number_of (V.Project it) = Some 3
-number_of (V.Filter it) = Some 4
-number_of (V.Join it) = Some 5
-number_of (V.SetOperation it) = Some 6
-number_of (V.Sort it) = Some 7
-number_of (V.Limit it) = Some 8
-number_of (V.Aggregate it) = Some 9
-number_of (V.LocalRelation it) = Some 11
-number_of (V.Offset it) = Some 13
-number_of (V.Deduplicate it) = Some 14
-number_of (V.Range it) = Some 15
-number_of (V.SubqueryAlias it) = Some 16
-number_of (V.ToDf it) = Some 18
-number_of (V.WithColumnsRenamed it) = Some 19
-number_of (V.DropColumns it) = Some 21
-number_of (V.WithColumns it) = Some 23
-number_of (V.Other number) = None
+abbrev pub member_number_of : {R : Type 0} → RelationMember R → Option ℕ
+member_number_of (V.Read it) = Some 2
+member_number_of (V.Project it) = Some 3
+member_number_of (V.Filter it) = Some 4
+member_number_of (V.Join it) = Some 5
+member_number_of (V.SetOperation it) = Some 6
+member_number_of (V.Sort it) = Some 7
+member_number_of (V.Limit it) = Some 8
+member_number_of (V.Aggregate it) = Some 9
+member_number_of (V.LocalRelation it) = Some 11
+member_number_of (V.Offset it) = Some 13
+member_number_of (V.Deduplicate it) = Some 14
+member_number_of (V.Range it) = Some 15
+member_number_of (V.SubqueryAlias it) = Some 16
+member_number_of (V.ToDf it) = Some 18
+member_number_of (V.WithColumnsRenamed it) = Some 19
+member_number_of (V.DropColumns it) = Some 21
+member_number_of (V.WithColumns it) = Some 23
+member_number_of (V.Other number) = None
 
 -- the only input, or the left one
 abbrev pub first_of : {R : Type 0} → RelationMember R → Option R

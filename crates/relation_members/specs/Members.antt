@@ -18,7 +18,7 @@ leaf_of number fields =
     else V.Other number
 
 -- over one input: project 3, filter 4, sort 7, limit 8, aggregate 9, offset 13, deduplicate 14, subquery_alias 16, to_df 18,
--- with_columns_renamed 19, drop 21, with_columns 23. A level is how many messages may be nested in an expression, itself among them.
+-- with_columns_renamed 19, drop 21, with_columns 23; another member stands for itself. A level is how many messages may be nested in an expression, itself among them.
 unfoldable pub unary_of : {R : Type 0} → ℕ → ℕ → R → List Field → RelationMember R
 unary_of level number input fields =
     if number == 3 then V.Project (project_of level input fields)
@@ -32,12 +32,15 @@ unary_of level number input fields =
     else if number == 18 then V.ToDf (to_df_of input fields)
     else if number == 19 then V.WithColumnsRenamed (renamed_of input fields)
     else if number == 21 then V.DropColumns (drop_columns_of level input fields)
-    else V.WithColumns (with_columns_of level input fields)
+    else if number == 23 then V.WithColumns (with_columns_of level input fields)
+    else V.Other number
 
--- over two inputs: join 5, set_op 6
+-- over two inputs: join 5, set_op 6; another member stands for itself
 unfoldable pub binary_of : {R : Type 0} → ℕ → ℕ → R → R → List Field → RelationMember R
 binary_of level number first second fields =
-    if number == 5 then V.Join (join_of level first second fields) else V.SetOperation (set_operation_of first second fields)
+    if number == 5 then V.Join (join_of level first second fields)
+    else if number == 6 then V.SetOperation (set_operation_of first second fields)
+    else V.Other number
 
 -- how many inputs a member of this number has
 unfoldable pub input_count : ℕ → ℕ
@@ -48,12 +51,12 @@ input_count number =
     else 0
 
 -- a member with these fields, where the relations in it are read so: an input is the field 1, and of two the second is the field 2
-unfoldable pub member_of : {R : Type 0} → (List Field → R) → ℕ → ℕ → List Field → RelationMember R
-member_of inner level number fields =
+unfoldable pub relation_member_of : {R : Type 0} → (List Field → R) → ℕ → ℕ → List Field → RelationMember R
+relation_member_of inner level number fields =
     if input_count number == 2 then binary_of level number (inner (message_at 1 fields)) (inner (message_at 2 fields)) fields
     else if input_count number == 1 then unary_of level number (inner (message_at 1 fields)) fields
     else leaf_of number fields
 
 -- the member that was set last
 abbrev pub member_at : {R : Type 0} → (List Field → R) → ℕ → Member → RelationMember R
-member_at inner level member = member_of inner level member.number (message_at member.number member.since)
+member_at inner level member = relation_member_of inner level member.number (message_at member.number member.since)

@@ -7,7 +7,7 @@ use Rattle.plain_relations.specs.Spelled.{limit_rest, offset_rest, subquery_alia
 use Rattle.expression_relations.specs.Spelled.{project_rest, filter_rest, join_rest, sort_rest, aggregate_rest, drop_columns_rest, with_columns_rest}
 use Rattle.relation_members.specs.declared.member.RelationMember.{RelationMember}
 use Rattle.relation_members.specs.declared.member.RelationMember.TheVariants as V
-use Rattle.relation_members.specs.Inputs.{number_of, first_of, second_of}
+use Rattle.relation_members.specs.Inputs.{member_number_of, first_of, second_of}
 
 -- the fields of a member's message besides its inputs
 abbrev pub rest_fields : {R : Type 0} → RelationMember R → List Field
@@ -40,4 +40,4 @@ message_fields inner member = input_fields inner 1 (first_of member) ++ input_fi
 
 -- the field that a member is; none where it is outside the profile
 abbrev pub member_fields : {R : Type 0} → (R → List Field) → RelationMember R → List Field
-member_fields inner member = unwrap_or (option_map (λ number. payload_fields number (spell (message_fields inner member))) (number_of member)) []
+member_fields inner member = unwrap_or (option_map (λ number. payload_fields number (spell (message_fields inner member))) (member_number_of member)) []

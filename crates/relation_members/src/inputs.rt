@@ -5,7 +5,7 @@ use crate::RelationMember;
 
 /// The number of the member's field; `None` where it is outside the profile. It takes no memory.
 pub fn member_number<R>(member: &RelationMember<R>) -> Option<u32>
-    ensures exact { result ≡ inputs.number_of member.now }
+    ensures exact { result ≡ inputs.member_number_of member.now }
     ensures low { IfSome result (λ number. 1 ≤ number) }
     ensures high { IfSome result (λ number. number ≤ 536870911) }
 {

@@ -13,7 +13,8 @@ pub use expression_relations::{Aggregate, DropColumns, Filter, Join, Project, So
 pub use inputs::{first_input, member_number, second_input};
 pub use member::RelationMember;
 pub use plain_relations::{
-    Deduplicate, Limit, Offset, RenameEntry, SetOperation, SubqueryAlias, ToDf, WithColumnsRenamed,
+    Deduplicate, Limit, Offset, RenameEntry, RenameMap, SetOperation, SubqueryAlias, ToDf,
+    WithColumnsRenamed,
 };
 pub use reading::{binary_member, input_count, leaf_member, unary_member};
 pub use relation_parts::{LocalRelation, NamedTable, Range, Read, RelationCommon};

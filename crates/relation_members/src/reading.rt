@@ -56,8 +56,8 @@ pub fn leaf_member<R: Drop>(
     }
 }
 
-/// The member over one input that a message's records hold, with so many levels of nesting for an expression in it. Its number is 3, 4, 7, 8, 9,
-/// 13, 14, 16, 18, 19, 21 or 23; any other is read as 23.
+/// The member over one input that a message's records hold, with so many levels of nesting for an expression in it. A number of no
+/// such member stands for itself.
 #[tactic(auto, unfolding(crate::specs::Members::unary_of))]
 pub fn unary_member<R: Drop>(
     alloc: Global,
@@ -80,12 +80,13 @@ pub fn unary_member<R: Drop>(
         18 => Ok(RelationMember::ToDf(to_df_over(alloc, items, input)?)),
         19 => Ok(RelationMember::WithColumnsRenamed(renamed_over(alloc, items, input)?)),
         21 => Ok(RelationMember::DropColumns(drop_columns_over(alloc, items, input, level)?)),
-        _ => Ok(RelationMember::WithColumns(with_columns_over(alloc, items, input, level)?)),
+        23 => Ok(RelationMember::WithColumns(with_columns_over(alloc, items, input, level)?)),
+        number => Ok(RelationMember::Other(number)),
     }
 }
 
-/// The member over two inputs that a message's records hold, with so many levels of nesting for an expression in it. Its number is 5 or 6; any
-/// other is read as 6.
+/// The member over two inputs that a message's records hold, with so many levels of nesting for an expression in it. A number of no
+/// such member stands for itself.
 #[tactic(auto, unfolding(crate::specs::Members::binary_of))]
 pub fn binary_member<R: Drop>(
     alloc: Global,
@@ -99,6 +100,7 @@ pub fn binary_member<R: Drop>(
 {
     match number {
         5 => Ok(RelationMember::Join(join_over(alloc, items, first, second, level)?)),
-        _ => Ok(RelationMember::SetOperation(set_operation_over(alloc, items, first, second)?)),
+        6 => Ok(RelationMember::SetOperation(set_operation_over(alloc, items, first, second)?)),
+        number => Ok(RelationMember::Other(number)),
     }
 }
