@@ -1,0 +1,7 @@
+-- What the evaluation of relations is stated by, beside the outcomes that a relation allows.
+pub mod Firsts
+pub mod Given
+pub mod Grouped
+pub mod KeyedRows
+pub mod Places
+pub mod SortKeys
