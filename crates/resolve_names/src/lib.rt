@@ -1,0 +1,18 @@
+//! Names in plans: identifiers, their case, columns in scope, and the errors of analysis.
+#![tactic(auto)]
+
+mod error;
+mod identifier;
+mod laws;
+mod lookup;
+mod matching;
+mod scope;
+mod setting;
+
+pub use error::{AnalysisError, ErrorName, ResolveStop, analysis_stop};
+pub use identifier::identifier_parts;
+pub use laws::identifiers_have_one_reading;
+pub use lookup::{attribute_place, is_named, named_place};
+pub use matching::names_match;
+pub use scope::{ColumnList, ColumnOf, Scope, ScopeColumn, Tagged};
+pub use setting::is_case_sensitive;
