@@ -1,0 +1,5 @@
+use Rattle.plan_tokens.proofs.Runs.{of_rest}
+use Rattle.plan_tokens.proofs.bytes.spaces_end.Goals as goal
+
+pub returns-clause-run : goal.returns-clause-run
+returns-clause-run c = of_rest _ c.args.bytes.now c.args.at _ c.space_count.ensures.run

@@ -1,0 +1,15 @@
+//! The tokens of pipeline texts: words, names, texts, numbers and signs, each with its place in bytes.
+#![tactic(auto)]
+
+mod bytes;
+mod keyword;
+mod numbers;
+mod quoted;
+mod reading;
+mod signs;
+mod token;
+mod tokens;
+
+pub use keyword::Keyword;
+pub use token::{Number, Placed, Quotation, Sign, Token};
+pub use tokens::Tokens;
