@@ -57,10 +57,10 @@ tells same a b told e = (
   λ (h : a ≡ b). e ∙ ap (λ (o : Ordering). Boolean (is_eq o)) ((same a b).1 h),
 )
 
-equal_in_type : (kind : DataType) (a b : Value) → HasType kind a → HasType kind b → a ≢ Null → b ≢ Null → equal_to a b ≡ Boolean (value_eq a b)
+pub equal_in_type : (kind : DataType) (a b : Value) → HasType kind a → HasType kind b → a ≢ Null → b ≢ Null → equal_to a b ≡ Boolean (value_eq a b)
 equal_in_type kind a b p q m n = ap (judged is_eq) (comparison_in_type kind a b p q m n)
 
-null_right : (a : Value) → equal_to a Null ≡ Null
+pub null_right : (a : Value) → equal_to a Null ≡ Null
 null_right Null = refl
 null_right (Boolean a) = refl
 null_right (Integer a) = refl

@@ -26,6 +26,7 @@ pub mod RelationFacts
 pub mod RowCounts
 pub mod SelectionFacts
 pub mod Sorted
+pub mod StepFacts
 pub mod TypedValues
 pub mod TypesFacts
 pub mod TypingFacts

@@ -29,6 +29,7 @@ pub mod SelectionLaws
 pub mod Selections
 pub mod SetOperations
 pub mod Sorting
+pub mod StepLaws
 pub mod Texts
 pub mod Truth
 pub mod TypingLaws

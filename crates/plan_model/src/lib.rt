@@ -10,6 +10,7 @@ mod node;
 mod outcome;
 mod plan;
 mod plan_laws;
+mod step_laws;
 #[cfg(test)]
 mod tests;
 
@@ -37,3 +38,4 @@ pub use plan_laws::{
     set_operations_hold_their_rows, sorted_rows_stay, sorts_go_by_the_first_key,
     sorts_without_ties_are_unique, worked_plans_hold,
 };
+pub use step_laws::{conditions_of_pairs, groups_grow, joins_grow, rows_once_grow};
