@@ -1,4 +1,4 @@
-ghost use Rattle.std.specs.Prelude.{◌≡◌, ◌≢◌, ◌+◌, ◌*◌, ◌<◌, ◌≤◌, length, Ok, Err, IfOk, IfErr, IfSome};
+ghost use Rattle.std.specs.Prelude.{◌≡◌, ◌≢◌, ◌+◌, ◌*◌, ◌<◌, ◌≤◌, length, sum_by, Ok, Err, IfOk, IfErr, IfSome};
 ghost use Rattle.arrow_read.specs.Reading.{if_plain as said_plain, columns_in as said_columns, batch_at as said_batch, next_batch as said_next};
 ghost use Rattle.arrow_read.specs.Room.{width};
 
@@ -43,6 +43,7 @@ fn columns_in<'a>(
     room: Room,
 ) -> Result<List<Column<'a>>, ArrowFault>
     ensures cells { IfOk result (λ _. length fields.now * batch.now.count ≤ room.cells) }
+    ensures texts { IfOk result (λ columns. sum_by (λ column. length column.texts) columns ≤ room.texts) }
     ensures ok { IfOk result (λ columns. said_columns batch.now body.now 0 0 fields.now ≡ Ok columns) }
     ensures refused { IfErr result (λ e. e ≢ ArrowFault.OutOfMemory → said_columns batch.now body.now 0 0 fields.now ≡ Err e) }
 {
