@@ -1,5 +1,6 @@
 -- Kinds of bytes.
-use Rattle.std.specs.Prelude.{ℕ, ◌-◌, ◌<◌, ◌≤◌, Bool, ◌==◌, ◌&&◌, ◌||◌, nat_le, List, slice_index}
+use Rattle.std.specs.Prelude.{ℕ, ◌-◌, ◌<◌, ◌≤◌, Bool, ◌==◌, ◌&&◌, ◌||◌, nat_le, List, length, slice_index}
+use Rattle.std.specs.List.{prefix_len}
 
 -- a space, a TAB or an LF
 abbrev pub is_space : ℕ → Bool
@@ -16,6 +17,10 @@ is_letter b = (nat_le 65 b && nat_le b 90) || (nat_le 97 b && nat_le b 122) || (
 -- a byte of a word behind its first
 abbrev pub is_word_byte : ℕ → Bool
 is_word_byte b = is_letter b || is_digit b
+
+-- a word: a letter, and bytes of a word behind it
+abbrev pub is_word : List ℕ → Bool
+is_word bytes = is_letter (slice_index bytes 0) && prefix_len is_word_byte bytes == length bytes
 
 -- the last of so many bytes at the front is an ASCII character
 abbrev pub EndsInAscii : List ℕ → ℕ → Type 0

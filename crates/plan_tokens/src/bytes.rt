@@ -43,6 +43,21 @@ fn word_length(bytes: &[u8]) -> usize
     bytes.iter().take_while(|byte| is_word_byte(**byte)).count()
 }
 
+/// Whether the bytes are a word: an ASCII letter or `_`, then letters, digits and `_`. It takes no memory.
+pub fn is_word(bytes: &[u8]) -> bool
+    ensures { result ≡ kinds.is_word bytes.now }
+{
+    is_letter(byte_at(bytes, 0)) && word_length(bytes) == bytes.len()
+}
+
+/// How many bytes of a word stand at the front: letters, digits and `_`. It takes no memory.
+pub fn word_bytes(bytes: &[u8]) -> usize
+    ensures run { result ≡ prefix_len kinds.is_word_byte bytes.now }
+    ensures within { result ≤ length bytes.now }
+{
+    word_length(bytes)
+}
+
 /// Where the bytes of a word that begin at a place end.
 pub fn word_end(bytes: &[u8], at: usize) -> usize
     requires { at ≤ length bytes.now }

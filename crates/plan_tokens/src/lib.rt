@@ -10,6 +10,7 @@ mod signs;
 mod token;
 mod tokens;
 
+pub use bytes::{byte_at, is_letter, is_word, word_bytes};
 pub use keyword::Keyword;
 pub use token::{Number, Placed, Quotation, Sign, Token};
 pub use tokens::Tokens;
