@@ -1,5 +1,5 @@
 -- What is written is aligned.
-use Rattle.std.proofs.Common.{◌≡◌, ℕ, zero, suc, ◌+◌, ◌%◌, List, [], ◌∷◌, ◌++◌, length, Some, arith, refl, ap, sym, length-append}
+use Rattle.std.proofs.Common.{◌≡◌, ℕ, zero, suc, ◌+◌, List, [], ◌∷◌, ◌++◌, length, Some, arith, refl, ap, sym, length-append}
 use Rattle.std.specs.Prelude.{pos, slice_get}
 use Rattle.std.specs.List.{flat_map}
 use Rattle.std.specs.Int.{w32, to_le_bytes}
@@ -12,7 +12,7 @@ use Rattle.flat_tables.proofs.Sizes.{padded_aligned}
 use Rattle.arrow_ipc.specs.Columns.{spans_from, body_of, buffers_from}
 use Rattle.arrow_ipc.specs.Messages.{schema_message, batch_message}
 use Rattle.arrow_ipc.specs.Stream.{mark, message_bytes}
-use Rattle.arrow_ipc.specs.Alignment.{batch_place, body_place, WrittenStreamsAreAligned}
+use Rattle.arrow_ipc.specs.Alignment.{WrittenStreamsAreAligned}
 
 message_aligned : LayoutsAreAligned → (message : FlatObject) → Is8 (length (message_bytes message))
 unfolding message_bytes
