@@ -1,27 +1,24 @@
--- Rows with the first of each key.
-use Rattle.std.specs.Prelude.{ℕ, suc, Bool, not, if◌then◌else◌, List, [], ◌∷◌, Option, None, Some, slice_get, filter}
-use Rattle.std.specs.List.{list_any, filter_map}
+-- The first row with each key.
+use Rattle.std.specs.Prelude.{Bool, not, if◌then◌else◌, List, [], ◌∷◌, ◌++◌}
+use Rattle.std.specs.List.{list_any}
 use Rattle.cn_types.specs.declared.row.Row.{Row}
-use Rattle.relation_eval.specs.Places.{Columns, key_by, has_key, places_of}
-
--- the rows whose place passes a test, where the first row has this place
-abbrev pub picked : (ℕ → Bool) → ℕ → List Row → List Row
-picked test place [] = []
-picked test place (row ∷ rows) = if test place then row ∷ picked test (suc place) rows else picked test (suc place) rows
+use Rattle.relation_eval.specs.Places.{Columns, key_by, has_key}
 
 -- a row of the list has the key of the row
 abbrev pub is_among : Columns → List Row → Row → Bool
-is_among columns seen row = list_any (λ earlier. has_key columns (key_by columns row) earlier) seen
+is_among columns seen row = list_any (has_key columns (key_by columns row)) seen
 
--- the rows whose key no earlier row has, neither of those that were seen before
-abbrev pub firsts_after : Columns → List Row → List Row → List Row
-firsts_after columns seen [] = []
-firsts_after columns seen (row ∷ rows) = if is_among columns seen row then firsts_after columns (row ∷ seen) rows else row ∷ firsts_after columns (row ∷ seen) rows
+-- for each row whether no row before it has its key, where some were seen before all of them
+abbrev pub flags_after : Columns → List Row → List Row → List Bool
+flags_after columns seen [] = []
+flags_after columns seen (row ∷ rows) = not (is_among columns seen row) ∷ flags_after columns (seen ++ row ∷ []) rows
+
+-- the rows whose flag is true
+abbrev pub flagged : List Bool → List Row → List Row
+flagged [] rows = []
+flagged (flag ∷ flags) [] = []
+flagged (flag ∷ flags) (row ∷ rows) = if flag then row ∷ flagged flags rows else flagged flags rows
 
 -- the first row with each key, in order
 abbrev pub firsts : Columns → List Row → List Row
-firsts columns rows = firsts_after columns [] rows
-
--- the rows at places, as far as the list has them
-abbrev pub rows_at : List Row → List ℕ → List Row
-rows_at rows places = filter_map (λ place. slice_get rows place) places
+firsts columns rows = flagged (flags_after columns [] rows) rows

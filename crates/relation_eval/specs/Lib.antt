@@ -1,4 +1,5 @@
 -- What the evaluation of relations is stated by, beside the outcomes that a relation allows.
+pub mod Copies
 pub mod Firsts
 pub mod Given
 pub mod Grouped

@@ -1,5 +1,5 @@
 -- The places of rows in a list, counted from 0.
-use Rattle.std.specs.Prelude.{ℕ, zero, suc, Bool, if◌then◌else◌, List, [], ◌∷◌, Option, None, Some}
+use Rattle.std.specs.Prelude.{ℕ, zero, suc, ◌==◌, Bool, false, if◌then◌else◌, List, [], ◌∷◌, Option, None, Some}
 use Rattle.std.specs.Borrow.{Bor}
 use Rattle.cn_types.specs.declared.row.Row.{Row}
 use Rattle.cn_types.specs.Order.{row_eq}
@@ -26,3 +26,8 @@ has_key columns key row = row_eq key (key_by columns row)
 -- the places, in order, of the rows whose values in these columns are the same as the key
 abbrev pub places_of : Columns → Row → List Row → List ℕ
 places_of columns key rows = places_from (has_key columns key) 0 rows
+
+-- the list begins with the place
+abbrev pub head_is : List ℕ → ℕ → Bool
+head_is [] place = false
+head_is (first ∷ places) place = first == place

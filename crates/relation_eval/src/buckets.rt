@@ -20,22 +20,22 @@ pub(crate) struct Placed<'a> {
 
 /// The places of the rows of a list, by their values in columns.
 #[derive(Debug, Drop)]
-pub(crate) struct Buckets<'a> {
-    rows: &'a [Row],
-    columns: Option<&'a [u32]>,
+pub struct Buckets<'a, 'c> {
+    pub(crate) rows: &'a [Row],
+    pub(crate) columns: Option<&'c [u32]>,
     /// The rows in the order of their values; those with the same values in the order of their places.
     entries: Vec<Placed<'a>>,
     /// The places of the entries.
     places: Vec<usize>,
 }
 
-impl<'a> Buckets<'a> {
+impl<'a, 'c> Buckets<'a, 'c> {
     /// The places of these rows by their values in these columns.
-    pub(crate) fn new(
+    pub fn new(
         alloc: Global,
         rows: &'a [Row],
-        columns: Option<&'a [u32]>,
-    ) -> Result<Buckets<'a>, OutOfMemory>
+        columns: Option<&'c [u32]>,
+    ) -> Result<Buckets<'a, 'c>, OutOfMemory>
         ensures rows { IfOk result (λ b. b.rows.now ≡ rows.now) }
         ensures columns { IfOk result (λ b. b.columns ≡ columns.entry) }
         ensures grouped { IfOk result IsGrouped }
@@ -53,7 +53,7 @@ impl<'a> Buckets<'a> {
 
     /// The places, in order, of the rows whose values in the list's columns are those of this row in its columns. Null is the same as
     /// null. It takes no memory.
-    pub(crate) fn same(&self, row: &Row, columns: Option<&[u32]>) -> &[usize]
+    pub fn same(&self, row: &Row, columns: Option<&[u32]>) -> &[usize]
         requires { IsGrouped self.now }
         ensures { result.now ≡ places_of self.now.columns (key_by columns.entry row.now) self.now.rows.now }
     {

@@ -1,8 +1,18 @@
-//! The rows of resolved plans, or the limit that they exceed.
+//! The rows of resolved plans, or the limit that they exceed: a function for each kind of relation, over the rows of its inputs.
 #![tactic(auto)]
 
 mod buckets;
+mod firsts;
 mod given;
 mod limits;
 mod selections;
+mod sets;
 mod sorting;
+
+pub use buckets::Buckets;
+pub use firsts::distinct_on;
+pub use given::{Given, HeldRows};
+pub use limits::limited_rows;
+pub use selections::{filter, project, slice};
+pub use sets::set_operation;
+pub use sorting::sort;

@@ -14,7 +14,7 @@ pub(crate) const WEIGHT_LIMIT: u64 = 8_388_608;
 
 /// The rows within the limits: too many of them come before one that is too large.
 #[tactic(auto, unfolding(plan_model::specs::Outcomes::row_limit))]
-pub(crate) fn limited_rows(rows: HeldRows) -> Given
+pub fn limited_rows(rows: HeldRows) -> Given
     ensures { outcome_of result ≡ limited (rows_of rows) }
 {
     if rows.as_slice().len() > ROW_LIMIT {

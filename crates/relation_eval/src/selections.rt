@@ -13,11 +13,7 @@ use plan_model::TypedExpr;
 use std::alloc::Global;
 
 /// For each row the items' values.
-pub(crate) fn project(
-    alloc: Global,
-    rows: HeldRows,
-    items: &List<TypedExpr>,
-) -> Result<Given, OutOfMemory>
+pub fn project(alloc: Global, rows: HeldRows, items: &List<TypedExpr>) -> Result<Given, OutOfMemory>
     requires literals { All HasLiteralsInRange items.now }
     requires dates { All HasDatesInRange (rows_of rows) }
     ensures { IfOk result (λ given. outcome_of given ≡ limited (projected items.now (rows_of rows))) }
@@ -61,11 +57,7 @@ pub(crate) fn image_of(
 }
 
 /// The rows of which the condition is true, in order. Owned rows are moved, and of shared ones those that are kept are copied.
-pub(crate) fn filter(
-    alloc: Global,
-    rows: HeldRows,
-    condition: &TypedExpr,
-) -> Result<Given, OutOfMemory>
+pub fn filter(alloc: Global, rows: HeldRows, condition: &TypedExpr) -> Result<Given, OutOfMemory>
     requires literals { HasLiteralsInRange condition.now }
     requires dates { All HasDatesInRange (rows_of rows) }
     ensures { IfOk result (λ given. outcome_of given ≡ limited (selected condition.now (rows_of rows))) }
@@ -119,7 +111,7 @@ fn moved_selected(
 }
 
 /// The rows without the first ones that are skipped, and of the rest at most so many as are taken. Owned rows are moved.
-pub(crate) fn slice(
+pub fn slice(
     alloc: Global,
     rows: HeldRows,
     skip: u32,

@@ -28,11 +28,7 @@ struct Keyed {
 }
 
 /// The rows in the order of the keys. Rows with the same keys keep their order, and owned rows are moved.
-pub(crate) fn sort(
-    alloc: Global,
-    rows: HeldRows,
-    keys: &List<SortKey>,
-) -> Result<Given, OutOfMemory>
+pub fn sort(alloc: Global, rows: HeldRows, keys: &List<SortKey>) -> Result<Given, OutOfMemory>
     requires literals { HaveLiteralsInRange keys.now }
     requires dates { All HasDatesInRange (rows_of rows) }
     ensures { IfOk result (λ given. Bounded (IsSort keys.now (rows_of rows)) (outcome_of given)) }
