@@ -25,10 +25,10 @@ use Rattle.response_messages.specs.declared.answers.ConfigResponse.{ConfigRespon
 use Rattle.response_messages.specs.declared.answers.InterruptResponse.{InterruptResponse}
 use Rattle.response_messages.specs.declared.answers.ReleaseExecuteResponse.{ReleaseExecuteResponse}
 use Rattle.response_messages.specs.KeyValues.{key_value_of, key_value_fields, HasKeyValueBits}
-use Rattle.response_messages.specs.Responses.{analyze_member, result_of, analyze_at, config_of, interrupt_of, release_of}
-use Rattle.response_messages.specs.Spelled.{result_fields, analyze_fields, config_fields, interrupt_fields, release_fields}
+use Rattle.response_messages.specs.Responses.{analyze_member, result_of, analyze_response_at, config_response_of, interrupt_response_of, release_response_of}
+use Rattle.response_messages.specs.Spelled.{result_fields, analyze_response_fields, config_response_fields, interrupt_response_fields, release_response_fields}
 use Rattle.response_messages.specs.Depths.{result_depth, pairs_depth}
-use Rattle.response_messages.specs.Known.{is_known_result, HasResultBits, HasAnalyzeBits, HasConfigBits, HasInterruptBits, HasReleaseBits}
+use Rattle.response_messages.specs.Known.{is_known_result, HasResultBits, HasAnalyzeResponseBits, HasConfigResponseBits, HasInterruptResponseBits, HasReleaseResponseBits}
 use Rattle.field_groups.specs.Groups.{AreOthers}
 use Rattle.field_groups.proofs.Among.{are_others, alone, before_others, behind, payloads_behind}
 use Rattle.field_groups.proofs.Members.{no_members, two_no_members, sets_one, one_behind, latest_one, latest_none}
@@ -127,10 +127,10 @@ same_analyze : {session session2 : List ℕ} {result result2 : AnalyzeResult} �
     ◌≡◌ {A = AnalyzePlanResponse} (record { session_id = session; result = result }) (record { session_id = session2; result = result2 })
 same_analyze session_is result_is = rw session_is (rw result_is refl)
 
-pub analyze_back : (level : ℕ) (response : AnalyzePlanResponse) → is_known_result response.result ≡ true → HasAnalyzeBits response → IsShort (analyze_fields response) → 1 + result_depth response.result ≤ level →
-    IsReadBack level kinds.AnalyzePlanResponse (analyze_fields response) (analyze_at level) response
+pub analyze_back : (level : ℕ) (response : AnalyzePlanResponse) → is_known_result response.result ≡ true → HasAnalyzeResponseBits response → IsShort (analyze_response_fields response) → 1 + result_depth response.result ≤ level →
+    IsReadBack level kinds.AnalyzePlanResponse (analyze_response_fields response) (analyze_response_at level) response
 unfolding payload_of
-analyze_back level response known bits short deep = read_back level kinds.AnalyzePlanResponse (session ++ rest) (analyze_at level) response (omega arith) stands same
+analyze_back level response known bits short deep = read_back level kinds.AnalyzePlanResponse (session ++ rest) (analyze_response_at level) response (omega arith) stands same
   where
     session : List Field
     session = text_fields 1 response.session_id
@@ -153,7 +153,7 @@ analyze_back level response known bits short deep = read_back level kinds.Analyz
     result_read : result_of (type_at (level - 2)) (session ++ rest) ≡ response.result
     result_read = ap (λ (n : ℕ). result_of (type_at n) (session ++ rest)) level_is ∙ back.same session session_piece.numbered
 
-    same : analyze_at level (session ++ rest) ≡ response
+    same : analyze_response_at level (session ++ rest) ≡ response
     same = same_analyze (session_back response.session_id rest bits.session_id back.others) result_read
 
 -- pairs
@@ -174,10 +174,10 @@ same_config : {session session2 : List ℕ} {pairs pairs2 : List KeyValue} → s
     ◌≡◌ {A = ConfigResponse} (record { session_id = session; pairs = pairs }) (record { session_id = session2; pairs = pairs2 })
 same_config session_is pairs_is = rw session_is (rw pairs_is refl)
 
-pub config_back : (level : ℕ) (response : ConfigResponse) → HasConfigBits response → IsShort (config_fields response) → 1 + pairs_depth response.pairs ≤ level →
-    IsReadBack level kinds.ConfigResponse (config_fields response) config_of response
+pub config_back : (level : ℕ) (response : ConfigResponse) → HasConfigResponseBits response → IsShort (config_response_fields response) → 1 + pairs_depth response.pairs ≤ level →
+    IsReadBack level kinds.ConfigResponse (config_response_fields response) config_response_of response
 unfolding payload_of
-config_back level response bits short deep = read_back level kinds.ConfigResponse (session ++ rest) config_of response (omega arith) stands same
+config_back level response bits short deep = read_back level kinds.ConfigResponse (session ++ rest) config_response_of response (omega arith) stands same
   where
     session : List Field
     session = text_fields 1 response.session_id
@@ -203,7 +203,7 @@ config_back level response bits short deep = read_back level kinds.ConfigRespons
         (payloads_behind 2 session rest (are_others 2 1 session session_piece.numbered (omega arith)) ∙ payloads_repeated 2 (map (λ pair. spell (key_value_fields pair)) response.pairs))
         ∙ messages_read (level - 1) kinds.KeyValue key_value_fields key_value_of response.pairs items
 
-    same : config_of (session ++ rest) ≡ response
+    same : config_response_of (session ++ rest) ≡ response
     same = same_config (session_back response.session_id rest bits.session_id (are_others 1 2 rest piece.numbered (omega arith))) pairs_read
 
 -- interrupted operations
@@ -212,10 +212,10 @@ same_interrupt : {session session2 : List ℕ} {ids ids2 : List (List ℕ)} → 
     ◌≡◌ {A = InterruptResponse} (record { session_id = session; interrupted_ids = ids }) (record { session_id = session2; interrupted_ids = ids2 })
 same_interrupt session_is ids_is = rw session_is (rw ids_is refl)
 
-pub interrupt_back : (level : ℕ) (response : InterruptResponse) → HasInterruptBits response → IsShort (interrupt_fields response) → 1 ≤ level →
-    IsReadBack level kinds.InterruptResponse (interrupt_fields response) interrupt_of response
+pub interrupt_back : (level : ℕ) (response : InterruptResponse) → HasInterruptResponseBits response → IsShort (interrupt_response_fields response) → 1 ≤ level →
+    IsReadBack level kinds.InterruptResponse (interrupt_response_fields response) interrupt_response_of response
 unfolding payload_of
-interrupt_back level response bits short deep = read_back level kinds.InterruptResponse (session ++ rest) interrupt_of response (omega arith) stands same
+interrupt_back level response bits short deep = read_back level kinds.InterruptResponse (session ++ rest) interrupt_response_of response (omega arith) stands same
   where
     session : List Field
     session = text_fields 1 response.session_id
@@ -236,7 +236,7 @@ interrupt_back level response bits short deep = read_back level kinds.InterruptR
     ids_read =
         texts_read 2 (session ++ rest) response.interrupted_ids (behind 2 session rest (are_others 2 1 session session_piece.numbered (omega arith))) bits.interrupted_ids
 
-    same : interrupt_of (session ++ rest) ≡ response
+    same : interrupt_response_of (session ++ rest) ≡ response
     same = same_interrupt (session_back response.session_id rest bits.session_id (are_others 1 2 rest piece.numbered (omega arith))) ids_read
 
 -- a released operation
@@ -245,10 +245,10 @@ same_release : {session session2 : List ℕ} {operation operation2 : Option (Lis
     ◌≡◌ {A = ReleaseExecuteResponse} (record { session_id = session; operation_id = operation }) (record { session_id = session2; operation_id = operation2 })
 same_release session_is operation_is = rw session_is (rw operation_is refl)
 
-pub release_back : (level : ℕ) (response : ReleaseExecuteResponse) → HasReleaseBits response → IsShort (release_fields response) → 1 ≤ level →
-    IsReadBack level kinds.ReleaseExecuteResponse (release_fields response) release_of response
+pub release_back : (level : ℕ) (response : ReleaseExecuteResponse) → HasReleaseResponseBits response → IsShort (release_response_fields response) → 1 ≤ level →
+    IsReadBack level kinds.ReleaseExecuteResponse (release_response_fields response) release_response_of response
 unfolding payload_of
-release_back level response bits short deep = read_back level kinds.ReleaseExecuteResponse (session ++ rest) release_of response (omega arith) stands same
+release_back level response bits short deep = read_back level kinds.ReleaseExecuteResponse (session ++ rest) release_response_of response (omega arith) stands same
   where
     session : List Field
     session = text_fields 1 response.session_id
@@ -269,5 +269,5 @@ release_back level response bits short deep = read_back level kinds.ReleaseExecu
     operation_read =
         optional_text_read 2 (session ++ rest) response.operation_id (behind 2 session rest (are_others 2 1 session session_piece.numbered (omega arith))) bits.operation_id
 
-    same : release_of (session ++ rest) ≡ response
+    same : release_response_of (session ++ rest) ≡ response
     same = same_release (session_back response.session_id rest bits.session_id (are_others 1 2 rest piece.numbered (omega arith))) operation_read

@@ -23,10 +23,10 @@ use Rattle.response_messages.specs.declared.execute.ArrowBatch.{ArrowBatch}
 use Rattle.response_messages.specs.declared.execute.ResponseType.{ResponseType}
 use Rattle.response_messages.specs.declared.execute.ResponseType.TheVariants as part
 use Rattle.response_messages.specs.declared.execute.ExecutePlanResponse.{ExecutePlanResponse}
-use Rattle.response_messages.specs.Responses.{arrow_batch_of, execute_member, response_type_of, execute_at}
-use Rattle.response_messages.specs.Spelled.{arrow_batch_fields, batch_fields, complete_fields, schema_fields, execute_fields}
-use Rattle.response_messages.specs.Depths.{response_type_depth, schema_depth, execute_depth}
-use Rattle.response_messages.specs.Known.{is_known_schema, HasResponseTypeBits, HasExecuteBits}
+use Rattle.response_messages.specs.Responses.{arrow_batch_of, execute_member, response_type_of, execute_response_at}
+use Rattle.response_messages.specs.Spelled.{arrow_batch_fields, batch_fields, complete_fields, schema_fields, execute_response_fields}
+use Rattle.response_messages.specs.Depths.{response_type_depth, schema_depth, execute_response_depth}
+use Rattle.response_messages.specs.Known.{is_known_schema, HasResponseTypeBits, HasExecuteResponseBits}
 use Rattle.field_groups.specs.Groups.{AreOthers}
 use Rattle.field_groups.proofs.Among.{are_others, two_others, payload_before, payload_behind, payloads_before, payloads_behind}
 use Rattle.field_groups.proofs.Members.{AreNoMembers, no_members, two_no_members, sets_one, one_before, one_behind, latest_one, latest_none}
@@ -156,10 +156,10 @@ same_response : {session session2 operation operation2 id id2 : List ℕ} {kind 
     (record { session_id = session2; response_type = kind2; schema = schema2; operation_id = operation2; response_id = id2 })
 same_response session_is kind_is schema_is operation_is id_is = rw session_is (rw kind_is (rw schema_is (rw operation_is (rw id_is refl))))
 
-pub execute_back : (level : ℕ) (response : ExecutePlanResponse) → is_known_schema response.schema ≡ true → HasExecuteBits response → IsShort (execute_fields response) → execute_depth response ≤ level →
-    IsReadBack level kinds.ExecutePlanResponse (execute_fields response) (execute_at level) response
+pub execute_back : (level : ℕ) (response : ExecutePlanResponse) → is_known_schema response.schema ≡ true → HasExecuteResponseBits response → IsShort (execute_response_fields response) → execute_response_depth response ≤ level →
+    IsReadBack level kinds.ExecutePlanResponse (execute_response_fields response) (execute_response_at level) response
 unfolding payload_of
-execute_back level response known bits short deep = read_back level kinds.ExecutePlanResponse whole (execute_at level) response (omega arith) stands same
+execute_back level response known bits short deep = read_back level kinds.ExecutePlanResponse whole (execute_response_at level) response (omega arith) stands same
   where
     kind : MessageKind
     kind = kinds.ExecutePlanResponse
@@ -275,5 +275,5 @@ execute_back level response known bits short deep = read_back level kinds.Execut
         (beside 13 e id.numbered (omega arith) (no_members kind 13 e (record { payload = refl; varint = refl }) id.numbered))
         (batch_back (level - 1) response.response_type bits.response_type two_short.1 (omega arith))
 
-    same : execute_at level whole ≡ response
+    same : execute_response_at level whole ≡ response
     same = same_response session_read part_read schema_read operation_read id_read

@@ -21,7 +21,7 @@ use Rattle.response_messages.specs.declared.answers.AnalyzeResult.{AnalyzeResult
 use Rattle.response_messages.specs.declared.answers.AnalyzeResult.TheVariants as said
 use Rattle.response_messages.specs.declared.answers.AnalyzePlanResponse.{AnalyzePlanResponse}
 use Rattle.response_messages.specs.declared.response.Response.TheVariants as responses
-use Rattle.response_messages.specs.Responses.{response_type_of, execute_at, analyze_member, result_of, analyze_at, response_kind, response_at}
+use Rattle.response_messages.specs.Responses.{response_type_of, execute_response_at, analyze_member, result_of, analyze_response_at, response_kind, response_at}
 
 -- ---- the schema of a running plan's response
 
@@ -40,7 +40,7 @@ with_schema fields schema = record {
   response_id = text_field 13 fields;
 }
 
-execute_same : (level more : ℕ) (fields : List Field) → level ≤ more → AreSound level kinds.ExecutePlanResponse fields → execute_at more fields ≡ execute_at level fields
+execute_same : (level more : ℕ) (fields : List Field) → level ≤ more → AreSound level kinds.ExecutePlanResponse fields → execute_response_at more fields ≡ execute_response_at level fields
 unfolding payload_of with_schema
 execute_same level more fields upper sound =
     ap (with_schema fields)
@@ -90,7 +90,7 @@ result_same level more fields upper sound (Some member) is =
 with_result : List Field → AnalyzeResult → AnalyzePlanResponse
 with_result fields found = record { session_id = text_field 1 fields; result = found }
 
-analyze_same : (level more : ℕ) (fields : List Field) → level ≤ more → AreSound level kinds.AnalyzePlanResponse fields → analyze_at more fields ≡ analyze_at level fields
+analyze_same : (level more : ℕ) (fields : List Field) → level ≤ more → AreSound level kinds.AnalyzePlanResponse fields → analyze_response_at more fields ≡ analyze_response_at level fields
 unfolding with_result
 analyze_same level more fields upper sound =
     let more_left : more - 2 ≡ more - 1 - 1 = omega arith in

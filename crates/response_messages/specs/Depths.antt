@@ -22,8 +22,8 @@ abbrev pub schema_depth : Option TypeMessage → ℕ
 schema_depth None = 0
 schema_depth (Some kind) = type_depth kind
 
-abbrev pub execute_depth : ExecutePlanResponse → ℕ
-execute_depth response = 1 + max (response_type_depth response.response_type) (schema_depth response.schema)
+abbrev pub execute_response_depth : ExecutePlanResponse → ℕ
+execute_response_depth response = 1 + max (response_type_depth response.response_type) (schema_depth response.schema)
 
 -- what the result of an analysis adds
 abbrev pub result_depth : AnalyzeResult → ℕ
@@ -39,9 +39,9 @@ pairs_depth (pair ∷ pairs) = 1
 
 -- a response, whatever its method
 abbrev pub response_depth : Response → ℕ
-response_depth (responses.ExecutePlan response) = execute_depth response
+response_depth (responses.ExecutePlan response) = execute_response_depth response
 response_depth (responses.AnalyzePlan response) = 1 + result_depth response.result
 response_depth (responses.Config response) = 1 + pairs_depth response.pairs
 response_depth (responses.Interrupt response) = 1
-response_depth (responses.ReattachExecute response) = execute_depth response
+response_depth (responses.ReattachExecute response) = execute_response_depth response
 response_depth (responses.ReleaseExecute response) = 1

@@ -48,7 +48,7 @@ HasResponseTypeBits (part.ArrowBatch batch) = FitsSigned w64 batch.row_count
 HasResponseTypeBits part.ResultComplete = Unit {0}
 HasResponseTypeBits part.Absent = Unit {0}
 
-pub record HasExecuteBits (response : ExecutePlanResponse) : Type 0 where
+pub record HasExecuteResponseBits (response : ExecutePlanResponse) : Type 0 where
   pub session_id : IsUtf8 response.session_id
   pub response_type : HasResponseTypeBits response.response_type
   pub schema : IfSome response.schema HasTypeBits
@@ -61,26 +61,26 @@ HasResultBits (said.IsStreaming value) = Unit {0}
 HasResultBits (said.SparkVersion version) = IsUtf8 version
 HasResultBits said.Absent = Unit {0}
 
-pub record HasAnalyzeBits (response : AnalyzePlanResponse) : Type 0 where
+pub record HasAnalyzeResponseBits (response : AnalyzePlanResponse) : Type 0 where
   pub session_id : IsUtf8 response.session_id
   pub result : HasResultBits response.result
 
-pub record HasConfigBits (response : ConfigResponse) : Type 0 where
+pub record HasConfigResponseBits (response : ConfigResponse) : Type 0 where
   pub session_id : IsUtf8 response.session_id
   pub pairs : AllByRecursion HasKeyValueBits response.pairs
 
-pub record HasInterruptBits (response : InterruptResponse) : Type 0 where
+pub record HasInterruptResponseBits (response : InterruptResponse) : Type 0 where
   pub session_id : IsUtf8 response.session_id
   pub interrupted_ids : AllByRecursion IsUtf8 response.interrupted_ids
 
-pub record HasReleaseBits (response : ReleaseExecuteResponse) : Type 0 where
+pub record HasReleaseResponseBits (response : ReleaseExecuteResponse) : Type 0 where
   pub session_id : IsUtf8 response.session_id
   pub operation_id : IfSome response.operation_id IsUtf8
 
 abbrev pub HasResponseBits : Response → Type 0
-HasResponseBits (responses.ExecutePlan response) = HasExecuteBits response
-HasResponseBits (responses.AnalyzePlan response) = HasAnalyzeBits response
-HasResponseBits (responses.Config response) = HasConfigBits response
-HasResponseBits (responses.Interrupt response) = HasInterruptBits response
-HasResponseBits (responses.ReattachExecute response) = HasExecuteBits response
-HasResponseBits (responses.ReleaseExecute response) = HasReleaseBits response
+HasResponseBits (responses.ExecutePlan response) = HasExecuteResponseBits response
+HasResponseBits (responses.AnalyzePlan response) = HasAnalyzeResponseBits response
+HasResponseBits (responses.Config response) = HasConfigResponseBits response
+HasResponseBits (responses.Interrupt response) = HasInterruptResponseBits response
+HasResponseBits (responses.ReattachExecute response) = HasExecuteResponseBits response
+HasResponseBits (responses.ReleaseExecute response) = HasReleaseResponseBits response

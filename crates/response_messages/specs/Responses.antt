@@ -42,8 +42,8 @@ abbrev pub response_type_of : List Field → ResponseType
 response_type_of fields = unwrap_or (option_map execute_member (latest kinds.ExecutePlanResponse fields)) part.Absent
 
 -- session_id 1, arrow_batch 2, schema 7, operation_id 12, response_id 13, result_complete 14, where the type of a schema is read so
-abbrev pub execute_of : (List Field → TypeMessage) → List Field → ExecutePlanResponse
-execute_of types fields = record {
+abbrev pub execute_response_of : (List Field → TypeMessage) → List Field → ExecutePlanResponse
+execute_response_of types fields = record {
   session_id = text_field 1 fields;
   response_type = response_type_of fields;
   schema = option_map types (merged 7 fields);
@@ -51,8 +51,8 @@ execute_of types fields = record {
   response_id = text_field 13 fields;
 }
 
-abbrev pub execute_at : ℕ → List Field → ExecutePlanResponse
-execute_at level fields = execute_of (type_at (level - 1)) fields
+abbrev pub execute_response_at : ℕ → List Field → ExecutePlanResponse
+execute_response_at level fields = execute_response_of (type_at (level - 1)) fields
 
 -- ---- the other responses
 
@@ -67,23 +67,23 @@ abbrev pub result_of : (List Field → TypeMessage) → List Field → AnalyzeRe
 result_of types fields = unwrap_or (option_map (analyze_member types) (latest kinds.AnalyzePlanResponse fields)) said.Absent
 
 -- session_id 1, schema 2, is_streaming 6, spark_version 8, where the type of a schema is read so
-abbrev pub analyze_of : (List Field → TypeMessage) → List Field → AnalyzePlanResponse
-analyze_of types fields = record { session_id = text_field 1 fields; result = result_of types fields }
+abbrev pub analyze_response_of : (List Field → TypeMessage) → List Field → AnalyzePlanResponse
+analyze_response_of types fields = record { session_id = text_field 1 fields; result = result_of types fields }
 
-abbrev pub analyze_at : ℕ → List Field → AnalyzePlanResponse
-analyze_at level fields = analyze_of (type_at (level - 2)) fields
+abbrev pub analyze_response_at : ℕ → List Field → AnalyzePlanResponse
+analyze_response_at level fields = analyze_response_of (type_at (level - 2)) fields
 
 -- session_id 1, pairs 2
-abbrev pub config_of : List Field → ConfigResponse
-config_of fields = record { session_id = text_field 1 fields; pairs = messages_at key_value_of 2 fields }
+abbrev pub config_response_of : List Field → ConfigResponse
+config_response_of fields = record { session_id = text_field 1 fields; pairs = messages_at key_value_of 2 fields }
 
 -- session_id 1, interrupted_ids 2
-abbrev pub interrupt_of : List Field → InterruptResponse
-interrupt_of fields = record { session_id = text_field 1 fields; interrupted_ids = texts 2 fields }
+abbrev pub interrupt_response_of : List Field → InterruptResponse
+interrupt_response_of fields = record { session_id = text_field 1 fields; interrupted_ids = texts 2 fields }
 
 -- session_id 1, operation_id 2
-abbrev pub release_of : List Field → ReleaseExecuteResponse
-release_of fields = record { session_id = text_field 1 fields; operation_id = optional_text 2 fields }
+abbrev pub release_response_of : List Field → ReleaseExecuteResponse
+release_response_of fields = record { session_id = text_field 1 fields; operation_id = optional_text 2 fields }
 
 -- ---- the response of a method
 
@@ -97,19 +97,19 @@ response_kind methods.ReattachExecute = kinds.ExecutePlanResponse
 response_kind methods.ReleaseExecute = kinds.ReleaseExecuteResponse
 
 -- the method that a response answers
-abbrev pub method_of : Response → Method
-method_of (responses.ExecutePlan response) = methods.ExecutePlan
-method_of (responses.AnalyzePlan response) = methods.AnalyzePlan
-method_of (responses.Config response) = methods.Config
-method_of (responses.Interrupt response) = methods.Interrupt
-method_of (responses.ReattachExecute response) = methods.ReattachExecute
-method_of (responses.ReleaseExecute response) = methods.ReleaseExecute
+abbrev pub method_answered : Response → Method
+method_answered (responses.ExecutePlan response) = methods.ExecutePlan
+method_answered (responses.AnalyzePlan response) = methods.AnalyzePlan
+method_answered (responses.Config response) = methods.Config
+method_answered (responses.Interrupt response) = methods.Interrupt
+method_answered (responses.ReattachExecute response) = methods.ReattachExecute
+method_answered (responses.ReleaseExecute response) = methods.ReleaseExecute
 
 -- what the fields of a method's response say, where so many messages may be nested
 abbrev pub response_at : ℕ → Method → List Field → Response
-response_at level methods.ExecutePlan fields = responses.ExecutePlan (execute_at level fields)
-response_at level methods.AnalyzePlan fields = responses.AnalyzePlan (analyze_at level fields)
-response_at level methods.Config fields = responses.Config (config_of fields)
-response_at level methods.Interrupt fields = responses.Interrupt (interrupt_of fields)
-response_at level methods.ReattachExecute fields = responses.ReattachExecute (execute_at level fields)
-response_at level methods.ReleaseExecute fields = responses.ReleaseExecute (release_of fields)
+response_at level methods.ExecutePlan fields = responses.ExecutePlan (execute_response_at level fields)
+response_at level methods.AnalyzePlan fields = responses.AnalyzePlan (analyze_response_at level fields)
+response_at level methods.Config fields = responses.Config (config_response_of fields)
+response_at level methods.Interrupt fields = responses.Interrupt (interrupt_response_of fields)
+response_at level methods.ReattachExecute fields = responses.ReattachExecute (execute_response_at level fields)
+response_at level methods.ReleaseExecute fields = responses.ReleaseExecute (release_response_of fields)

@@ -43,8 +43,8 @@ abbrev pub schema_fields : Option TypeMessage → List Field
 schema_fields schema = optional_payload_fields 7 (option_map (λ kind. spell (type_fields kind)) schema)
 
 -- session_id 1, arrow_batch 2, schema 7, operation_id 12, response_id 13, result_complete 14
-abbrev pub execute_fields : ExecutePlanResponse → List Field
-execute_fields response =
+abbrev pub execute_response_fields : ExecutePlanResponse → List Field
+execute_response_fields response =
     text_fields 1 response.session_id ++ batch_fields response.response_type ++ schema_fields response.schema
     ++ text_fields 12 response.operation_id ++ text_fields 13 response.response_id ++ complete_fields response.response_type
 
@@ -58,26 +58,26 @@ result_fields (said.SparkVersion version) = payload_fields 8 (spell (text_fields
 result_fields said.Absent = []
 
 -- session_id 1, schema 2, is_streaming 6, spark_version 8
-abbrev pub analyze_fields : AnalyzePlanResponse → List Field
-analyze_fields response = text_fields 1 response.session_id ++ result_fields response.result
+abbrev pub analyze_response_fields : AnalyzePlanResponse → List Field
+analyze_response_fields response = text_fields 1 response.session_id ++ result_fields response.result
 
 -- session_id 1, pairs 2
-abbrev pub config_fields : ConfigResponse → List Field
-config_fields response = text_fields 1 response.session_id ++ messages_fields key_value_fields 2 response.pairs
+abbrev pub config_response_fields : ConfigResponse → List Field
+config_response_fields response = text_fields 1 response.session_id ++ messages_fields key_value_fields 2 response.pairs
 
 -- session_id 1, interrupted_ids 2
-abbrev pub interrupt_fields : InterruptResponse → List Field
-interrupt_fields response = text_fields 1 response.session_id ++ repeated_fields 2 response.interrupted_ids
+abbrev pub interrupt_response_fields : InterruptResponse → List Field
+interrupt_response_fields response = text_fields 1 response.session_id ++ repeated_fields 2 response.interrupted_ids
 
 -- session_id 1, operation_id 2
-abbrev pub release_fields : ReleaseExecuteResponse → List Field
-release_fields response = text_fields 1 response.session_id ++ optional_payload_fields 2 response.operation_id
+abbrev pub release_response_fields : ReleaseExecuteResponse → List Field
+release_response_fields response = text_fields 1 response.session_id ++ optional_payload_fields 2 response.operation_id
 
 -- a response, whatever its method
 abbrev pub response_fields : Response → List Field
-response_fields (responses.ExecutePlan response) = execute_fields response
-response_fields (responses.AnalyzePlan response) = analyze_fields response
-response_fields (responses.Config response) = config_fields response
-response_fields (responses.Interrupt response) = interrupt_fields response
-response_fields (responses.ReattachExecute response) = execute_fields response
-response_fields (responses.ReleaseExecute response) = release_fields response
+response_fields (responses.ExecutePlan response) = execute_response_fields response
+response_fields (responses.AnalyzePlan response) = analyze_response_fields response
+response_fields (responses.Config response) = config_response_fields response
+response_fields (responses.Interrupt response) = interrupt_response_fields response
+response_fields (responses.ReattachExecute response) = execute_response_fields response
+response_fields (responses.ReleaseExecute response) = release_response_fields response

@@ -56,7 +56,7 @@ pub(crate) fn analyze_from(
     items: &[Record],
     level: u32,
 ) -> Result<AnalyzePlanResponse, OutOfMemory>
-    ensures { IfOk result (λ response. response ≡ responses.analyze_at level (seen items.now)) }
+    ensures { IfOk result (λ response. response ≡ responses.analyze_response_at level (seen items.now)) }
 {
     Ok(AnalyzePlanResponse {
         session_id: text_field(alloc, items, 1)?,
@@ -66,7 +66,7 @@ pub(crate) fn analyze_from(
 
 /// The response of a settings' operation that a message's records hold.
 pub(crate) fn config_from(alloc: Global, items: &[Record]) -> Result<ConfigResponse, OutOfMemory>
-    ensures { IfOk result (λ response. response ≡ responses.config_of (seen items.now)) }
+    ensures { IfOk result (λ response. response ≡ responses.config_response_of (seen items.now)) }
 {
     Ok(ConfigResponse {
         session_id: text_field(alloc, items, 1)?,
@@ -79,7 +79,7 @@ pub(crate) fn interrupt_from(
     alloc: Global,
     items: &[Record],
 ) -> Result<InterruptResponse, OutOfMemory>
-    ensures { IfOk result (λ response. response ≡ responses.interrupt_of (seen items.now)) }
+    ensures { IfOk result (λ response. response ≡ responses.interrupt_response_of (seen items.now)) }
 {
     Ok(InterruptResponse {
         session_id: text_field(alloc, items, 1)?,
@@ -92,7 +92,7 @@ pub(crate) fn release_from(
     alloc: Global,
     items: &[Record],
 ) -> Result<ReleaseExecuteResponse, OutOfMemory>
-    ensures { IfOk result (λ response. response ≡ responses.release_of (seen items.now)) }
+    ensures { IfOk result (λ response. response ≡ responses.release_response_of (seen items.now)) }
 {
     Ok(ReleaseExecuteResponse {
         session_id: text_field(alloc, items, 1)?,

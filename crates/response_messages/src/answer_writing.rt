@@ -40,7 +40,7 @@ pub(crate) fn put_analyze(
     out: &mut MessageWriter,
     response: &AnalyzePlanResponse,
 ) -> Result<(), OutOfMemory>
-    ensures { OnOk result (out.new ≡ spell (spelled.analyze_fields response.now) ++ out.old) }
+    ensures { OnOk result (out.new ≡ spell (spelled.analyze_response_fields response.now) ++ out.old) }
 {
     put_result(out, &response.result)?;
     out.put_text(1, response.session_id.as_str())
@@ -52,7 +52,7 @@ pub(crate) fn put_config(
     out: &mut MessageWriter,
     response: &ConfigResponse,
 ) -> Result<(), OutOfMemory>
-    ensures { OnOk result (out.new ≡ spell (spelled.config_fields response.now) ++ out.old) }
+    ensures { OnOk result (out.new ≡ spell (spelled.config_response_fields response.now) ++ out.old) }
 {
     put_pairs(out, 2, response.pairs.as_slice())?;
     out.put_text(1, response.session_id.as_str())
@@ -64,7 +64,7 @@ pub(crate) fn put_interrupt(
     out: &mut MessageWriter,
     response: &InterruptResponse,
 ) -> Result<(), OutOfMemory>
-    ensures { OnOk result (out.new ≡ spell (spelled.interrupt_fields response.now) ++ out.old) }
+    ensures { OnOk result (out.new ≡ spell (spelled.interrupt_response_fields response.now) ++ out.old) }
 {
     put_texts(out, 2, response.interrupted_ids.as_slice())?;
     out.put_text(1, response.session_id.as_str())
@@ -76,7 +76,7 @@ pub(crate) fn put_release(
     out: &mut MessageWriter,
     response: &ReleaseExecuteResponse,
 ) -> Result<(), OutOfMemory>
-    ensures { OnOk result (out.new ≡ spell (spelled.release_fields response.now) ++ out.old) }
+    ensures { OnOk result (out.new ≡ spell (spelled.release_response_fields response.now) ++ out.old) }
 {
     out.put_optional_text(2, &response.operation_id)?;
     out.put_text(1, response.session_id.as_str())

@@ -3,6 +3,7 @@ ghost use Rattle.proto_fields.specs.declared.fault.MessageFault.{MessageFault};
 ghost use Rattle.proto_fields.specs.Faults.{IsSound, IsCause, HasFault, Gives};
 ghost use Rattle.proto_fields.specs.Fields.{fields_of};
 ghost use Rattle.proto_fields.specs.Views.{seen};
+ghost use Rattle.response_messages.specs.Known.{HasResponseBits};
 ghost use Rattle.response_messages.specs.Responses as responses;
 
 use crate::answer_reading::{analyze_from, config_from, interrupt_from, release_from};
@@ -55,6 +56,7 @@ fn response_from(
 ///
 /// The error is the first fault of the message, its own before those of its payloads, with its place in the bytes: `Wire`, `NotUtf8` or
 /// `TooDeep`. `OutOfMemory` says nothing of the bytes.
+#[tactic(auto, using(crate::proofs::ResponsesValid::response_is_valid, crate::proofs::ResponsesValid::response_answers))]
 pub fn decode_response(
     alloc: Global,
     method: Method,
@@ -62,6 +64,10 @@ pub fn decode_response(
 ) -> Result<Response, MessageFault>
     ensures sound { IfOk result (λ response. IsSound 200 (responses.response_kind method) bytes.now) }
     ensures fault { IfErr result (IsCause 200 (responses.response_kind method) bytes.now) }
+
+    // What is read has the bits of its types and UTF-8 texts, so that it can be written again, and it answers the method.
+    ensures valid { IfOk result HasResponseBits }
+    ensures method { IfOk result (λ response. responses.method_answered response ≡ method) }
 
     // A sound message is read, and a fault is the answer.
     ensures read { IsSound 200 (responses.response_kind method) bytes.now

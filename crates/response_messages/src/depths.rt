@@ -28,7 +28,7 @@ fn schema_depth(schema: &Option<TypeMessage>) -> u32
 
 /// How many messages are nested in a running plan's response, itself among them; 2^32 - 1 where there are more.
 fn execute_depth(response: &ExecutePlanResponse) -> u32
-    ensures { result ≡ told (depths.execute_depth response.now) }
+    ensures { result ≡ told (depths.execute_response_depth response.now) }
 {
     response_type_depth(&response.response_type)
         .max(schema_depth(&response.schema))

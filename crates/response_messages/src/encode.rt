@@ -1,7 +1,9 @@
 ghost use Rattle.std.specs.Prelude.{◌≡◌, ◌≤◌, ◌++◌, IfOk, OnOk};
 ghost use Rattle.proto_fields.specs.Spelling.{spell};
 ghost use Rattle.response_messages.specs.Depths.{response_depth};
-ghost use Rattle.response_messages.specs.Known.{IsKnownResponse};
+ghost use Rattle.expression_messages.specs.Laws.{IsReadAs};
+ghost use Rattle.response_messages.specs.Known.{IsKnownResponse, HasResponseBits};
+ghost use Rattle.response_messages.specs.Responses.{response_kind, method_answered, response_at};
 ghost use Rattle.response_messages.specs.Spelled.{response_fields};
 
 use crate::Response;
@@ -32,9 +34,16 @@ fn put_response(out: &mut MessageWriter, response: &Response) -> Result<(), OutO
 pub fn encode_response(alloc: Global, response: &Response) -> Result<Bytes, OutOfMemory>
     requires known { IsKnownResponse response.now }
     requires depth { response_depth response.now ≤ 200 }
-    ensures { IfOk result (λ bytes. bytes ≡ spell (response_fields response.now)) }
+    ensures exact { IfOk result (λ bytes. bytes ≡ spell (response_fields response.now)) }
+
+    // What is given is sound, and is read by the response's method as the response, whose numbers and texts are as those of every response that
+    // was read.
+    ensures read { HasResponseBits response.now
+        → IfOk result (λ bytes. IsReadAs 200 (response_kind (method_answered response.now)) bytes (response_at 200 (method_answered response.now)) response.now) }
 {
     let mut out = MessageWriter::with_room(alloc, response_size(response) as usize)?;
     put_response(&mut out, response)?;
-    Ok(out.finish())
+    let bytes = out.finish();
+    prove!(bytes.len() <= usize::MAX);
+    Ok(bytes)
 }

@@ -75,7 +75,7 @@ pub(crate) fn execute_from(
     items: &[Record],
     level: u32,
 ) -> Result<ExecutePlanResponse, OutOfMemory>
-    ensures { IfOk result (λ response. response ≡ responses.execute_at level (seen items.now)) }
+    ensures { IfOk result (λ response. response ≡ responses.execute_response_at level (seen items.now)) }
 {
     Ok(ExecutePlanResponse {
         session_id: text_field(alloc, items, 1)?,

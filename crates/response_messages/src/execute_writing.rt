@@ -76,7 +76,7 @@ pub(crate) fn put_execute(
     out: &mut MessageWriter,
     response: &ExecutePlanResponse,
 ) -> Result<(), OutOfMemory>
-    ensures { OnOk result (out.new ≡ spell (spelled.execute_fields response.now) ++ out.old) }
+    ensures { OnOk result (out.new ≡ spell (spelled.execute_response_fields response.now) ++ out.old) }
 {
     put_complete(out, &response.response_type)?;
     out.put_text(13, response.response_id.as_str())?;

@@ -28,10 +28,10 @@ pub use key_value::{
     KeyValue, key_value_from, key_value_size, pairs_from, pairs_size, put_key_value, put_pairs,
 };
 pub use known::is_known_response;
-pub use laws::{key_values_are_read_back, levels_agree, responses_are_read_back};
+pub use laws::{
+    key_values_are_read_back, response_levels_agree, response_texts_are_kept,
+    responses_are_read_back, responses_are_valid,
+};
 pub use method::Method;
 pub use response::Response;
 pub use sizes::response_size;
-
-#[cfg(test)]
-mod tests;

@@ -1,5 +1,5 @@
 ghost use Rattle.std.specs.Prelude.{◌≡◌};
-ghost use Rattle.response_messages.specs.Responses.{method_of};
+ghost use Rattle.response_messages.specs.Responses.{method_answered};
 
 use crate::{
     AnalyzePlanResponse, ConfigResponse, ExecutePlanResponse, InterruptResponse, Method,
@@ -23,7 +23,7 @@ pub enum Response {
 impl Response {
     /// The method that the response answers. It takes no memory.
     pub fn method(&self) -> Method
-        ensures { result ≡ method_of self.now }
+        ensures { result ≡ method_answered self.now }
     {
         match self {
             Response::ExecutePlan(_) => Method::ExecutePlan,

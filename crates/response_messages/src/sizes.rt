@@ -71,7 +71,7 @@ fn schema_size(schema: &Option<TypeMessage>) -> u64
 
 /// How many bytes the message of a running plan's response takes; 2^64 - 1 where it is above that.
 fn execute_size(response: &ExecutePlanResponse) -> u64
-    ensures { result ≡ size_of (spelled.execute_fields response.now) }
+    ensures { result ≡ size_of (spelled.execute_response_fields response.now) }
 {
     let session_id = text_size(1, response.session_id.as_str());
     let batch = batch_size(&response.response_type);
@@ -102,7 +102,7 @@ fn result_size(answer: &AnalyzeResult) -> u64
 /// How many bytes the message of an analysis's response takes; 2^64 - 1 where it is above that.
 #[tactic(auto, using(expression_messages::proofs::Measured::sized_two))]
 fn analyze_size(response: &AnalyzePlanResponse) -> u64
-    ensures { result ≡ size_of (spelled.analyze_fields response.now) }
+    ensures { result ≡ size_of (spelled.analyze_response_fields response.now) }
 {
     text_size(1, response.session_id.as_str()).saturating_add(result_size(&response.result))
 }
@@ -110,7 +110,7 @@ fn analyze_size(response: &AnalyzePlanResponse) -> u64
 /// How many bytes the message of a settings' response takes; 2^64 - 1 where it is above that.
 #[tactic(auto, using(expression_messages::proofs::Measured::sized_two))]
 fn config_size(response: &ConfigResponse) -> u64
-    ensures { result ≡ size_of (spelled.config_fields response.now) }
+    ensures { result ≡ size_of (spelled.config_response_fields response.now) }
 {
     text_size(1, response.session_id.as_str()).saturating_add(pairs_size(
         2,
@@ -121,7 +121,7 @@ fn config_size(response: &ConfigResponse) -> u64
 /// How many bytes the message of an interruption's response takes; 2^64 - 1 where it is above that.
 #[tactic(auto, using(expression_messages::proofs::Measured::sized_two))]
 fn interrupt_size(response: &InterruptResponse) -> u64
-    ensures { result ≡ size_of (spelled.interrupt_fields response.now) }
+    ensures { result ≡ size_of (spelled.interrupt_response_fields response.now) }
 {
     text_size(1, response.session_id.as_str()).saturating_add(texts_size(
         2,
@@ -132,7 +132,7 @@ fn interrupt_size(response: &InterruptResponse) -> u64
 /// How many bytes the message of a release's response takes; 2^64 - 1 where it is above that.
 #[tactic(auto, using(expression_messages::proofs::Measured::sized_two))]
 fn release_size(response: &ReleaseExecuteResponse) -> u64
-    ensures { result ≡ size_of (spelled.release_fields response.now) }
+    ensures { result ≡ size_of (spelled.release_response_fields response.now) }
 {
     text_size(1, response.session_id.as_str()).saturating_add(optional_text_size(
         2,
