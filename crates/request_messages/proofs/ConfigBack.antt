@@ -23,7 +23,7 @@ use Rattle.request_messages.specs.declared.config.ConfigOperation.{ConfigOperati
 use Rattle.request_messages.specs.declared.config.ConfigOperation.TheVariants as operation
 use Rattle.request_messages.specs.declared.config.ConfigRequest.{ConfigRequest}
 use Rattle.request_messages.specs.Spelled.{context_fields}
-use Rattle.request_messages.specs.Configs.{operation_member, operation_in, config_of, operation_of_member, operation_fields, config_fields, HasOperationBits, HasConfigBits}
+use Rattle.request_messages.specs.Configs.{operation_member, operation_in, config_request_of, operation_of_member, operation_fields, config_fields, HasOperationBits, HasConfigBits}
 use Rattle.request_messages.specs.Depths.{pairs_operation_depth, operation_depth, config_depth}
 use Rattle.field_groups.specs.Groups.{ReadsAs}
 use Rattle.field_groups.proofs.Members.{latest_none, latest_behind}
@@ -214,9 +214,9 @@ same_config : {session session2 : List ℕ} {context context2 : Option UserConte
 same_config session_is context_is it_is = rw session_is (rw context_is (rw it_is refl))
 
 pub config_back : (level : ℕ) (request : ConfigRequest) → HasConfigBits request → IsShort (config_fields request) → config_depth request ≤ level →
-    IsReadBack level kinds.ConfigRequest (config_fields request) config_of request
+    IsReadBack level kinds.ConfigRequest (config_fields request) config_request_of request
 unfolding payload_of
-config_back level request bits short deep = read_back level kinds.ConfigRequest whole config_of request (omega arith) stands same
+config_back level request bits short deep = read_back level kinds.ConfigRequest whole config_request_of request (omega arith) stands same
   where
     session : List Field
     session = text_fields 1 request.session_id
@@ -248,7 +248,7 @@ config_back level request bits short deep = read_back level kinds.ConfigRequest 
     reads : ThreeRead 1 2 3 session context it
     reads = three_read 1 2 3 session context it session_piece.numbered a_piece.numbered back.piece.numbered (omega arith) (omega arith)
 
-    same : config_of whole ≡ request
+    same : config_request_of whole ≡ request
     same = same_config
         (text_read 1 whole request.session_id reads.first bits.session_id)
         (context_read whole request.user_context reads.second bits.user_context shorts.second)

@@ -19,10 +19,10 @@ use Rattle.request_messages.specs.declared.release.ReleaseRequest.{ReleaseReques
 use Rattle.request_messages.specs.declared.interrupt.InterruptTarget.{InterruptTarget}
 use Rattle.request_messages.specs.declared.interrupt.InterruptTarget.TheVariants as target
 use Rattle.request_messages.specs.declared.interrupt.InterruptRequest.{InterruptRequest}
-use Rattle.request_messages.specs.Requests.{reattach_of, release_member, release_in, release_of, target_member, target_in, interrupt_of}
-use Rattle.request_messages.specs.Spelled.{context_fields, reattach_fields, release_member_fields, release_fields, target_fields, interrupt_fields}
+use Rattle.request_messages.specs.Requests.{reattach_request_of, release_member, release_in, release_request_of, interrupt_target_member, target_in, interrupt_request_of}
+use Rattle.request_messages.specs.Spelled.{context_fields, reattach_fields, release_member_fields, release_fields, interrupt_target_fields, interrupt_fields}
 use Rattle.request_messages.specs.Depths.{reattach_depth, release_member_depth, release_depth, interrupt_depth}
-use Rattle.request_messages.specs.Bits.{HasReattachBits, HasReleaseMemberBits, HasReleaseBits, HasTargetBits, HasInterruptBits}
+use Rattle.request_messages.specs.Bits.{HasReattachBits, HasReleaseMemberBits, HasReleaseBits, HasInterruptTargetBits, HasInterruptBits}
 use Rattle.field_groups.proofs.Among.{behind}
 use Rattle.field_groups.proofs.Members.{two_no_members, latest_none, latest_behind}
 use Rattle.field_groups.proofs.Groups.{FourRead, four_read, FourShort, four_short, four_stand, MemberBack, member_read}
@@ -38,9 +38,9 @@ same_reattach : {session session2 operation operation2 : List ℕ} {context cont
 same_reattach session_is context_is operation_is response_is = rw session_is (rw context_is (rw operation_is (rw response_is refl)))
 
 pub reattach_back : (level : ℕ) (request : ReattachRequest) → HasReattachBits request → IsShort (reattach_fields request) → reattach_depth request ≤ level →
-    IsReadBack level kinds.ReattachExecuteRequest (reattach_fields request) reattach_of request
+    IsReadBack level kinds.ReattachExecuteRequest (reattach_fields request) reattach_request_of request
 unfolding payload_of
-reattach_back level request bits short deep = read_back level kinds.ReattachExecuteRequest whole reattach_of request (omega arith) stands same
+reattach_back level request bits short deep = read_back level kinds.ReattachExecuteRequest whole reattach_request_of request (omega arith) stands same
   where
     session : List Field
     session = text_fields 1 request.session_id
@@ -78,7 +78,7 @@ reattach_back level request bits short deep = read_back level kinds.ReattachExec
     reads : FourRead 1 2 3 5 session context operation response
     reads = four_read 1 2 3 5 session context operation response session_piece.numbered a_piece.numbered operation_piece.numbered response_piece.numbered (omega arith) (omega arith) (omega arith)
 
-    same : reattach_of whole ≡ request
+    same : reattach_request_of whole ≡ request
     same = same_reattach
         (text_read 1 whole request.session_id reads.first bits.session_id)
         (context_read whole request.user_context reads.second bits.user_context shorts.second)
@@ -133,9 +133,9 @@ same_release : {session session2 operation operation2 : List ℕ} {context conte
 same_release session_is context_is operation_is it_is = rw session_is (rw context_is (rw operation_is (rw it_is refl)))
 
 pub release_back : (level : ℕ) (request : ReleaseRequest) → HasReleaseBits request → IsShort (release_fields request) → release_depth request ≤ level →
-    IsReadBack level kinds.ReleaseExecuteRequest (release_fields request) release_of request
+    IsReadBack level kinds.ReleaseExecuteRequest (release_fields request) release_request_of request
 unfolding payload_of
-release_back level request bits short deep = read_back level kinds.ReleaseExecuteRequest whole release_of request (omega arith) stands same
+release_back level request bits short deep = read_back level kinds.ReleaseExecuteRequest whole release_request_of request (omega arith) stands same
   where
     session : List Field
     session = text_fields 1 request.session_id
@@ -173,7 +173,7 @@ release_back level request bits short deep = read_back level kinds.ReleaseExecut
     reads : FourRead 1 2 3 member_back.number session context operation member
     reads = four_read 1 2 3 member_back.number session context operation member session_piece.numbered a_piece.numbered operation_piece.numbered member_back.piece.numbered (omega arith) (omega arith) member_back.above
 
-    same : release_of whole ≡ request
+    same : release_request_of whole ≡ request
     same = same_release
         (text_read 1 whole request.session_id reads.first bits.session_id)
         (context_read whole request.user_context reads.second bits.user_context shorts.second)
@@ -185,9 +185,9 @@ release_back level request bits short deep = read_back level kinds.ReleaseExecut
 -- ---- interrupting
 
 target_by : Option Member → InterruptTarget
-target_by member = unwrap_or (option_map target_member member) target.Absent
+target_by member = unwrap_or (option_map interrupt_target_member member) target.Absent
 
-target_back : (levels : ℕ) (it : InterruptTarget) → HasTargetBits it → IsShort (target_fields it) → MemberBack levels kinds.InterruptRequest 4 (target_fields it) target_in it
+target_back : (levels : ℕ) (it : InterruptTarget) → HasInterruptTargetBits it → IsShort (interrupt_target_fields it) → MemberBack levels kinds.InterruptRequest 4 (interrupt_target_fields it) target_in it
 unfolding payload_of target_by
 target_back levels (target.OperationTag tag) bits short = record {
   number = 5;
@@ -219,9 +219,9 @@ same_interrupt : {session session2 : List ℕ} {context context2 : Option UserCo
 same_interrupt session_is context_is kind_is it_is = rw session_is (rw context_is (rw kind_is (rw it_is refl)))
 
 pub interrupt_back : (level : ℕ) (request : InterruptRequest) → HasInterruptBits request → IsShort (interrupt_fields request) → interrupt_depth request ≤ level →
-    IsReadBack level kinds.InterruptRequest (interrupt_fields request) interrupt_of request
+    IsReadBack level kinds.InterruptRequest (interrupt_fields request) interrupt_request_of request
 unfolding payload_of
-interrupt_back level request bits short deep = read_back level kinds.InterruptRequest whole interrupt_of request (omega arith) stands same
+interrupt_back level request bits short deep = read_back level kinds.InterruptRequest whole interrupt_request_of request (omega arith) stands same
   where
     session : List Field
     session = text_fields 1 request.session_id
@@ -233,7 +233,7 @@ interrupt_back level request bits short deep = read_back level kinds.InterruptRe
     kind = int_fields 4 request.interrupt_type
 
     member : List Field
-    member = target_fields request.target
+    member = interrupt_target_fields request.target
 
     whole : List Field
     whole = session ++ context ++ kind ++ member
@@ -259,7 +259,7 @@ interrupt_back level request bits short deep = read_back level kinds.InterruptRe
     reads : FourRead 1 2 4 member_back.number session context kind member
     reads = four_read 1 2 4 member_back.number session context kind member session_piece.numbered a_piece.numbered kind_piece.numbered member_back.piece.numbered (omega arith) (omega arith) member_back.above
 
-    same : interrupt_of whole ≡ request
+    same : interrupt_request_of whole ≡ request
     same = same_interrupt
         (text_read 1 whole request.session_id reads.first bits.session_id)
         (context_read whole request.user_context reads.second bits.user_context shorts.second)

@@ -33,13 +33,13 @@ pub record HasReleaseBits (request : ReleaseRequest) : Type 0 where
   pub operation_id : IsUtf8 request.operation_id
   pub release : HasReleaseMemberBits request.release
 
-abbrev pub HasTargetBits : InterruptTarget → Type 0
-HasTargetBits (target.OperationTag tag) = IsUtf8 tag
-HasTargetBits (target.OperationId id) = IsUtf8 id
-HasTargetBits target.Absent = Unit {0}
+abbrev pub HasInterruptTargetBits : InterruptTarget → Type 0
+HasInterruptTargetBits (target.OperationTag tag) = IsUtf8 tag
+HasInterruptTargetBits (target.OperationId id) = IsUtf8 id
+HasInterruptTargetBits target.Absent = Unit {0}
 
 pub record HasInterruptBits (request : InterruptRequest) : Type 0 where
   pub session_id : IsUtf8 request.session_id
   pub user_context : HasContextBits request.user_context
   pub interrupt_type : FitsSigned w32 request.interrupt_type
-  pub target : HasTargetBits request.target
+  pub target : HasInterruptTargetBits request.target

@@ -43,8 +43,8 @@ abbrev pub operation_in : List Field → ConfigOperation
 operation_in fields = unwrap_or (option_map operation_member (latest kinds.ConfigOperation (message_at 3 fields))) operation.Absent
 
 -- session_id 1, user_context 2, operation 3
-abbrev pub config_of : List Field → ConfigRequest
-config_of fields = record { session_id = text_field 1 fields; user_context = context_of fields; operation = operation_in fields }
+abbrev pub config_request_of : List Field → ConfigRequest
+config_request_of fields = record { session_id = text_field 1 fields; user_context = context_of fields; operation = operation_in fields }
 
 -- ---- writing
 

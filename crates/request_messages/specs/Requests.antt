@@ -34,8 +34,8 @@ reattachable_of fields = unwrap_or (last_some option_flag (payloads 5 fields)) f
 -- ---- requests
 
 -- session_id 1, user_context 2, operation_id 3, last_response_id 5
-abbrev pub reattach_of : List Field → ReattachRequest
-reattach_of fields = record {
+abbrev pub reattach_request_of : List Field → ReattachRequest
+reattach_request_of fields = record {
   session_id = text_field 1 fields;
   user_context = context_of fields;
   operation_id = text_field 3 fields;
@@ -51,8 +51,8 @@ abbrev pub release_in : List Field → Release
 release_in fields = unwrap_or (option_map release_member (latest kinds.ReleaseExecuteRequest fields)) release.Absent
 
 -- session_id 1, user_context 2, operation_id 3
-abbrev pub release_of : List Field → ReleaseRequest
-release_of fields = record {
+abbrev pub release_request_of : List Field → ReleaseRequest
+release_request_of fields = record {
   session_id = text_field 1 fields;
   user_context = context_of fields;
   operation_id = text_field 3 fields;
@@ -60,16 +60,16 @@ release_of fields = record {
 }
 
 -- operation_tag 5, operation_id 6
-abbrev pub target_member : Member → InterruptTarget
-target_member member =
+abbrev pub interrupt_target_member : Member → InterruptTarget
+interrupt_target_member member =
     if member.number == 5 then target.OperationTag (text_field 5 member.since) else target.OperationId (text_field 6 member.since)
 
 abbrev pub target_in : List Field → InterruptTarget
-target_in fields = unwrap_or (option_map target_member (latest kinds.InterruptRequest fields)) target.Absent
+target_in fields = unwrap_or (option_map interrupt_target_member (latest kinds.InterruptRequest fields)) target.Absent
 
 -- session_id 1, user_context 2, interrupt_type 4
-abbrev pub interrupt_of : List Field → InterruptRequest
-interrupt_of fields = record {
+abbrev pub interrupt_request_of : List Field → InterruptRequest
+interrupt_request_of fields = record {
   session_id = text_field 1 fields;
   user_context = context_of fields;
   interrupt_type = int32_field 4 fields;

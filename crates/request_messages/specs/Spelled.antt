@@ -51,13 +51,13 @@ release_fields request =
     ++ release_member_fields request.release
 
 -- operation_tag 5, operation_id 6
-abbrev pub target_fields : InterruptTarget → List Field
-target_fields (target.OperationTag tag) = payload_fields 5 tag
-target_fields (target.OperationId id) = payload_fields 6 id
-target_fields target.Absent = []
+abbrev pub interrupt_target_fields : InterruptTarget → List Field
+interrupt_target_fields (target.OperationTag tag) = payload_fields 5 tag
+interrupt_target_fields (target.OperationId id) = payload_fields 6 id
+interrupt_target_fields target.Absent = []
 
 -- session_id 1, user_context 2, interrupt_type 4
 abbrev pub interrupt_fields : InterruptRequest → List Field
 interrupt_fields request =
     text_fields 1 request.session_id ++ context_fields request.user_context ++ int_fields 4 request.interrupt_type
-    ++ target_fields request.target
+    ++ interrupt_target_fields request.target

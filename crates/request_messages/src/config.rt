@@ -81,7 +81,7 @@ impl Copied for ConfigRequest {
 
 /// The request that a message's records hold. An operation without a member is `Absent`, as an absent one is.
 pub fn config_from(alloc: Global, items: &[Record]) -> Result<ConfigRequest, OutOfMemory>
-    ensures { IfOk result (λ request. request ≡ configs.config_of (seen items.now)) }
+    ensures { IfOk result (λ request. request ≡ configs.config_request_of (seen items.now)) }
 {
     Ok(ConfigRequest {
         session_id: text_field(alloc, items, 1)?,

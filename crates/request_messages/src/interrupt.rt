@@ -55,7 +55,7 @@ impl Copied for InterruptRequest {
 
 /// The target that a member of the request's oneof is.
 fn target_of_member(alloc: Global, member: &Member) -> Result<InterruptTarget, OutOfMemory>
-    ensures { IfOk result (λ target. target ≡ requests.target_member (member_of member.now)) }
+    ensures { IfOk result (λ target. target ≡ requests.interrupt_target_member (member_of member.now)) }
 {
     if member.number == 5 {
         Ok(InterruptTarget::OperationTag(text_field(alloc, member.since, 5)?))
@@ -76,7 +76,7 @@ fn target_in(alloc: Global, items: &[Record]) -> Result<InterruptTarget, OutOfMe
 
 /// The request that a message's records hold.
 pub fn interrupt_from(alloc: Global, items: &[Record]) -> Result<InterruptRequest, OutOfMemory>
-    ensures { IfOk result (λ request. request ≡ requests.interrupt_of (seen items.now)) }
+    ensures { IfOk result (λ request. request ≡ requests.interrupt_request_of (seen items.now)) }
 {
     Ok(InterruptRequest {
         session_id: text_field(alloc, items, 1)?,

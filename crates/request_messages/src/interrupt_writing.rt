@@ -11,7 +11,7 @@ use proto_fields::{MessageWriter, int_size, payload_size, text_size};
 /// Puts the member of the request's oneof before what stands.
 #[tactic(auto, using(expression_messages::proofs::Written::spell_nil))]
 fn put_target(out: &mut MessageWriter, target: &InterruptTarget) -> Result<(), OutOfMemory>
-    ensures { OnOk result (out.new ≡ spell (spelled.target_fields target.now) ++ out.old) }
+    ensures { OnOk result (out.new ≡ spell (spelled.interrupt_target_fields target.now) ++ out.old) }
 {
     match target {
         InterruptTarget::OperationTag(tag) => out.put_payload(5, tag.as_str().as_bytes()),
@@ -34,7 +34,7 @@ pub fn put_interrupt(out: &mut MessageWriter, request: &InterruptRequest) -> Res
 /// How many bytes the member of the request's oneof takes; 2^64 - 1 where it is above that.
 #[tactic(auto, using(expression_messages::proofs::Measured::size_of_nil))]
 fn target_size(target: &InterruptTarget) -> u64
-    ensures { result ≡ size_of (spelled.target_fields target.now) }
+    ensures { result ≡ size_of (spelled.interrupt_target_fields target.now) }
 {
     match target {
         InterruptTarget::OperationTag(tag) => payload_size(5, tag.as_str().len()),

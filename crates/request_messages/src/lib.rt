@@ -22,7 +22,7 @@ pub use interrupt_writing::{interrupt_size, put_interrupt};
 pub use laws::{
     config_requests_are_read_back, interrupt_requests_are_read_back,
     reattach_requests_are_read_back, reattachable_is_read_back, release_requests_are_read_back,
-    user_contexts_are_read_back,
+    request_texts_are_kept, requests_are_valid, user_contexts_are_read_back,
 };
 pub use option_field::{
     put_reattachable, reattachable_depth, reattachable_from, reattachable_size,
@@ -31,6 +31,3 @@ pub use reattach::{ReattachRequest, put_reattach, reattach_depth, reattach_from,
 pub use release::{Release, ReleaseRequest, release_depth, release_from};
 pub use release_writing::{put_release, release_size};
 pub use user_context::{UserContext, put_user_context, user_context_from, user_context_size};
-
-#[cfg(test)]
-mod tests;

@@ -37,7 +37,7 @@ impl Copied for ReattachRequest {
 
 /// The request that a message's records hold.
 pub fn reattach_from(alloc: Global, items: &[Record]) -> Result<ReattachRequest, OutOfMemory>
-    ensures { IfOk result (λ request. request ≡ requests.reattach_of (seen items.now)) }
+    ensures { IfOk result (λ request. request ≡ requests.reattach_request_of (seen items.now)) }
 {
     Ok(ReattachRequest {
         session_id: text_field(alloc, items, 1)?,

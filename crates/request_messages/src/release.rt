@@ -77,7 +77,7 @@ fn release_in(alloc: Global, items: &[Record]) -> Result<Release, OutOfMemory>
 
 /// The request that a message's records hold.
 pub fn release_from(alloc: Global, items: &[Record]) -> Result<ReleaseRequest, OutOfMemory>
-    ensures { IfOk result (λ request. request ≡ requests.release_of (seen items.now)) }
+    ensures { IfOk result (λ request. request ≡ requests.release_request_of (seen items.now)) }
 {
     Ok(ReleaseRequest {
         session_id: text_field(alloc, items, 1)?,
