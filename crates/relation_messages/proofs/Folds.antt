@@ -6,7 +6,7 @@ use Rattle.expression_messages.specs.Depths.{told}
 use Rattle.relation_parts.specs.declared.common.RelationCommon.{RelationCommon}
 use Rattle.relation_members.specs.declared.member.RelationMember.{RelationMember}
 use Rattle.relation_members.specs.declared.member.RelationMember.TheVariants as V
-use Rattle.relation_members.specs.Inputs.{number_of, first_of, second_of}
+use Rattle.relation_members.specs.Inputs.{member_number_of, first_of, second_of}
 use Rattle.relation_members.specs.Spelled.{member_fields}
 use Rattle.relation_members.specs.Depths.{rest_depth, member_depth}
 use Rattle.relation_members.specs.Known.{is_known_member}
@@ -151,20 +151,20 @@ rolled relation member same = ap (λ (m : RelationMember Relation). roll-Relatio
 
 -- ---- the depth of a relation by those of its parts
 
-member_deep : (member : RelationMember Relation) (number : ℕ) → Some number ≡ number_of member →
+member_deep : (member : RelationMember Relation) (number : ℕ) → Some number ≡ member_number_of member →
     member_depth relation_depth member ≡ 1 + max (max (unwrap_or (option_map relation_depth (first_of member)) 0) (unwrap_or (option_map relation_depth (second_of member)) 0)) (rest_depth member)
 member_deep member number is =
     let deep = 1 + max (max (unwrap_or (option_map relation_depth (first_of member)) 0) (unwrap_or (option_map relation_depth (second_of member)) 0)) (rest_depth member) in
     ap (λ (n : Option ℕ). unwrap_or (option_map (λ i. deep) n) 0) (sym is)
 
-pub deep_some : (relation : Relation) (number common first second rest both all inner widest whole : ℕ) → Some number ≡ number_of (out-Relation relation).member → common ≡ common_depth (out-Relation relation).common →
+pub deep_some : (relation : Relation) (number common first second rest both all inner widest whole : ℕ) → Some number ≡ member_number_of (out-Relation relation).member → common ≡ common_depth (out-Relation relation).common →
     first ≡ told (unwrap_or (option_map relation_depth (first_of (out-Relation relation).member)) 0) → second ≡ told (unwrap_or (option_map relation_depth (second_of (out-Relation relation).member)) 0) →
     rest ≡ told (rest_depth (out-Relation relation).member) → both ≡ max first second → all ≡ max both rest → inner ≡ min (all + 1) (2 ^ 32 - 1) → widest ≡ max common inner →
     whole ≡ min (widest + 1) (2 ^ 32 - 1) → whole ≡ told (relation_depth relation)
 deep_some relation number common first second rest both all inner widest whole number_is common_is first_is second_is rest_is both_is all_is inner_is widest_is whole_is =
     omega (arith, relation_deep relation, member_deep (out-Relation relation).member number number_is, common_is, first_is, second_is, rest_is, both_is, all_is, inner_is, widest_is, whole_is)
 
-pub deep_none : (relation : Relation) (common whole : ℕ) → None ≡ number_of (out-Relation relation).member → common ≡ common_depth (out-Relation relation).common → whole ≡ min (common + 1) (2 ^ 32 - 1) →
+pub deep_none : (relation : Relation) (common whole : ℕ) → None ≡ member_number_of (out-Relation relation).member → common ≡ common_depth (out-Relation relation).common → whole ≡ min (common + 1) (2 ^ 32 - 1) →
     whole ≡ told (relation_depth relation)
 deep_none relation common whole number_is common_is whole_is =
     let member = (out-Relation relation).member in

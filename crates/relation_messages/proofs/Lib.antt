@@ -3,3 +3,5 @@ pub mod Levels
 pub mod RelationBack
 pub mod SameRelations
 pub mod Measured
+pub mod RelationValid
+pub mod RelationTexts

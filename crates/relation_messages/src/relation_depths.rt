@@ -1,7 +1,7 @@
 ghost use Rattle.std.specs.Prelude.{◌≡◌, ◌≤◌, ◌+◌, ℕ, max, option_map, unwrap_or, true};
 ghost use Rattle.relation_members.specs.Depths.{rest_depth as rest_levels};
 ghost use Rattle.expression_messages.specs.Depths.{told};
-ghost use Rattle.relation_members.specs.Inputs.{number_of, first_of, second_of};
+ghost use Rattle.relation_members.specs.Inputs.{member_number_of, first_of, second_of};
 ghost use Rattle.relation_messages.specs.Depths as depths;
 ghost use Rattle.relation_messages.specs.Known as known;
 
@@ -38,7 +38,7 @@ pub fn relation_depth(relation: &Relation) -> u32
 fn depth_over(member: &RelationMember<Relation>, first: u32, second: u32) -> u32
     ensures { (one other : ℕ) → first ≡ told one → second ≡ told other
         → result ≡ told (unwrap_or
-        (option_map (λ number. 1 + max (max one other) (rest_levels member.now)) (number_of member.now)) 0) }
+        (option_map (λ number. 1 + max (max one other) (rest_levels member.now)) (member_number_of member.now)) 0) }
 {
     match member_number(member) {
         Some(_) => first.max(second).max(rest_depth(member)).saturating_add(1),

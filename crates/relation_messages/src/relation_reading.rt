@@ -54,7 +54,7 @@ pub fn relation_from(alloc: Global, items: &[Record], level: u32) -> Result<Rela
 
 /// What the member of a relation's oneof is, with so many levels for each relation and each expression in it.
 #[cycle(relations)]
-#[tactic(auto, unfolding(relation_members::specs::Members::member_of))]
+#[tactic(auto, unfolding(relation_members::specs::Members::relation_member_of))]
 fn member_from(
     alloc: Global,
     member: &Member,
