@@ -3,6 +3,7 @@ ghost use Rattle.proto_fields.specs.declared.fault.MessageFault.{MessageFault};
 ghost use Rattle.proto_fields.specs.declared.kind.MessageKind.{MessageKind};
 ghost use Rattle.proto_fields.specs.Faults.{IsSound, IsCause, HasFault, Gives};
 ghost use Rattle.proto_fields.specs.Fields.{fields_of};
+ghost use Rattle.plan_messages.specs.Known.{HasPlanBits};
 ghost use Rattle.plan_messages.specs.Plans.{plan_at};
 
 use crate::Plan;
@@ -17,9 +18,13 @@ const MOST_LEVELS: u32 = 200;
 ///
 /// The error is the first fault of the message, its own before those of its payloads, with its place in the bytes: `Wire`, `NotUtf8` or
 /// `TooDeep`. `OutOfMemory` says nothing of the bytes.
+#[tactic(auto, using(crate::proofs::PlanValid::plan_is_valid))]
 pub fn decode_plan(alloc: Global, bytes: &[u8]) -> Result<Plan, MessageFault>
     ensures sound { IfOk result (λ plan. IsSound 200 MessageKind.Plan bytes.now) }
     ensures fault { IfErr result (IsCause 200 MessageKind.Plan bytes.now) }
+
+    // What is read has the bits of its types and UTF-8 texts, so that it can be written again.
+    ensures valid { IfOk result HasPlanBits }
 
     // A sound message is read, and a fault is the answer.
     ensures read { IsSound 200 MessageKind.Plan bytes.now → Gives result (Ok (plan_at 200 (fields_of bytes.now))) }
