@@ -29,7 +29,7 @@ use Rattle.plan_messages.proofs.PlanBack.{plan_read_back}
 use Rattle.connect_messages.specs.declared.analyze.Analysis.{Analysis}
 use Rattle.connect_messages.specs.declared.analyze.Analysis.TheVariants as analysis
 use Rattle.connect_messages.specs.declared.analyze.AnalyzeRequest.{AnalyzeRequest}
-use Rattle.connect_messages.specs.Requests.{analysis_member, analysis_at, analyze_at}
+use Rattle.connect_messages.specs.Requests.{analysis_member, analysis_at, analyze_request_at}
 use Rattle.connect_messages.specs.Spelled.{analyzed_fields, analysis_fields, analyze_fields}
 use Rattle.connect_messages.specs.Depths.{analysis_depth, analyze_depth}
 use Rattle.connect_messages.specs.Known.{is_known_analysis, HasAnalysisBits, HasAnalyzeBits}
@@ -113,9 +113,9 @@ same_analyze : {session session2 : List ℕ} {context context2 : Option UserCont
 same_analyze session_is context_is it_is = rw session_is (rw context_is (rw it_is refl))
 
 pub analyze_back : (level : ℕ) (request : AnalyzeRequest) → IsTrue (is_known_analysis request.analysis) → HasAnalyzeBits request → IsShort (analyze_fields request) → analyze_depth request ≤ level →
-    IsReadBack level kinds.AnalyzePlanRequest (analyze_fields request) (analyze_at level) request
+    IsReadBack level kinds.AnalyzePlanRequest (analyze_fields request) (analyze_request_at level) request
 unfolding payload_of
-analyze_back level request known bits short deep = read_back level kinds.AnalyzePlanRequest whole (analyze_at level) request (omega arith) stands same
+analyze_back level request known bits short deep = read_back level kinds.AnalyzePlanRequest whole (analyze_request_at level) request (omega arith) stands same
   where
     session : List Field
     session = text_fields 1 request.session_id
@@ -158,7 +158,7 @@ analyze_back level request known bits short deep = read_back level kinds.Analyze
         two_others back.number session context
         (are_others back.number 1 session session_piece.numbered (omega arith)) (are_others back.number 2 context a_piece.numbered (omega arith))
 
-    same : analyze_at level whole ≡ request
+    same : analyze_request_at level whole ≡ request
     same = same_analyze
         (text_read 1 whole request.session_id reads.first bits.session_id)
         (context_read whole request.user_context reads.second bits.user_context shorts.second)

@@ -21,7 +21,7 @@ use Rattle.plan_messages.specs.Spelled.{plan_fields}
 use Rattle.plan_messages.specs.Known.{IsKnownPlan}
 use Rattle.plan_messages.proofs.PlanBack.{plan_read_back}
 use Rattle.connect_messages.specs.declared.execute.ExecuteRequest.{ExecuteRequest}
-use Rattle.connect_messages.specs.Requests.{execute_at}
+use Rattle.connect_messages.specs.Requests.{execute_request_at}
 use Rattle.connect_messages.specs.Spelled.{execute_fields}
 use Rattle.connect_messages.specs.Depths.{execute_depth}
 use Rattle.connect_messages.specs.Known.{HasExecuteBits}
@@ -34,9 +34,9 @@ same_execute session_is context_is plan_is flag_is operation_is tags_is =
     rw session_is (rw context_is (rw plan_is (rw flag_is (rw operation_is (rw tags_is refl)))))
 
 pub execute_back : (level : ℕ) (request : ExecuteRequest) → IsKnownPlan request.plan → HasExecuteBits request → IsShort (execute_fields request) → execute_depth request ≤ level →
-    IsReadBack level kinds.ExecutePlanRequest (execute_fields request) (execute_at level) request
+    IsReadBack level kinds.ExecutePlanRequest (execute_fields request) (execute_request_at level) request
 unfolding payload_of
-execute_back level request known bits short deep = read_back level kinds.ExecutePlanRequest whole (execute_at level) request (omega arith) stands same
+execute_back level request known bits short deep = read_back level kinds.ExecutePlanRequest whole (execute_request_at level) request (omega arith) stands same
   where
     session : List Field
     session = text_fields 1 request.session_id
@@ -126,7 +126,7 @@ execute_back level request known bits short deep = read_back level kinds.Execute
         ap (plan_at (level - 1)) (message_at-one 3 whole message ((in_front 3 plan (omega arith) front_reads.third).payloads_are ∙ payloads_one 3 message))
         ∙ plan_back.same
 
-    same : execute_at level whole ≡ request
+    same : execute_request_at level whole ≡ request
     same = same_execute
         (text_read 1 whole request.session_id (in_front 1 session (omega arith) front_reads.first) bits.session_id)
         (context_read whole request.user_context (in_front 2 context (omega arith) front_reads.second) bits.user_context front_shorts.second)

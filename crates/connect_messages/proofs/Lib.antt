@@ -3,3 +3,4 @@ pub mod AnalyzeBack
 pub mod RequestBack
 pub mod PlansAgree
 pub mod SameRequests
+pub mod AskedValid

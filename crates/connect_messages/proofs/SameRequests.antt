@@ -18,7 +18,7 @@ use Rattle.connect_messages.specs.declared.analyze.Analysis.{Analysis}
 use Rattle.connect_messages.specs.declared.analyze.Analysis.TheVariants as analysis
 use Rattle.connect_messages.specs.declared.analyze.AnalyzeRequest.{AnalyzeRequest}
 use Rattle.connect_messages.specs.declared.request.Request.TheVariants as requests
-use Rattle.connect_messages.specs.Requests.{execute_at, analyzed_plan, analysis_member, analysis_at, analyze_at, request_kind, request_at}
+use Rattle.connect_messages.specs.Requests.{execute_request_at, analyzed_plan, analysis_member, analysis_at, analyze_request_at, request_kind, request_at}
 use Rattle.connect_messages.proofs.PlansAgree.{inner_plan_agrees}
 
 -- ---- a plan to execute
@@ -33,7 +33,7 @@ with_plan fields plan = record {
   tags = texts 7 fields;
 }
 
-execute_same : (level more : ℕ) (fields : List Field) → level ≤ more → AreSound level kinds.ExecutePlanRequest fields → execute_at more fields ≡ execute_at level fields
+execute_same : (level more : ℕ) (fields : List Field) → level ≤ more → AreSound level kinds.ExecutePlanRequest fields → execute_request_at more fields ≡ execute_request_at level fields
 unfolding payload_of with_plan
 execute_same level more fields upper sound =
     ap (with_plan fields)
@@ -78,7 +78,7 @@ analysis_same level more fields upper sound (Some member) is =
 with_analysis : List Field → Analysis → AnalyzeRequest
 with_analysis fields found = record { session_id = text_field 1 fields; user_context = context_of fields; analysis = found }
 
-analyze_same : (level more : ℕ) (fields : List Field) → level ≤ more → AreSound level kinds.AnalyzePlanRequest fields → analyze_at more fields ≡ analyze_at level fields
+analyze_same : (level more : ℕ) (fields : List Field) → level ≤ more → AreSound level kinds.AnalyzePlanRequest fields → analyze_request_at more fields ≡ analyze_request_at level fields
 unfolding with_analysis
 analyze_same level more fields upper sound = ap (with_analysis fields) (analysis_same level more fields upper sound (latest kinds.AnalyzePlanRequest fields) refl)
 

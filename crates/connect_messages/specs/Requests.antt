@@ -7,8 +7,8 @@ use Rattle.proto_fields.specs.Readings.{text_field, optional_text, texts, Member
 use Rattle.expression_messages.specs.Messages.{message_at}
 use Rattle.plan_messages.specs.declared.plan.Plan.{Plan}
 use Rattle.plan_messages.specs.Plans.{plan_at}
-use Rattle.request_messages.specs.Requests.{context_of, reattachable_of, reattach_of, release_of, interrupt_of}
-use Rattle.request_messages.specs.Configs.{config_of}
+use Rattle.request_messages.specs.Requests.{context_of, reattachable_of, reattach_request_of, release_request_of, interrupt_request_of}
+use Rattle.request_messages.specs.Configs.{config_request_of}
 use Rattle.response_messages.specs.declared.method.Method.{Method}
 use Rattle.response_messages.specs.declared.method.Method.TheVariants as method
 use Rattle.connect_messages.specs.declared.execute.ExecuteRequest.{ExecuteRequest}
@@ -19,8 +19,8 @@ use Rattle.connect_messages.specs.declared.request.Request.{Request}
 use Rattle.connect_messages.specs.declared.request.Request.TheVariants as request
 
 -- session_id 1, user_context 2, plan 3, request_options 5, operation_id 6, tags 7
-abbrev pub execute_at : ℕ → List Field → ExecuteRequest
-execute_at level fields = record {
+abbrev pub execute_request_at : ℕ → List Field → ExecuteRequest
+execute_request_at level fields = record {
   session_id = text_field 1 fields;
   user_context = context_of fields;
   plan = plan_at (level - 1) (message_at 3 fields);
@@ -46,8 +46,8 @@ abbrev pub analysis_at : ℕ → List Field → Analysis
 analysis_at level fields = unwrap_or (option_map (analysis_member level) (latest kinds.AnalyzePlanRequest fields)) (analysis.Other 0)
 
 -- session_id 1, user_context 2
-abbrev pub analyze_at : ℕ → List Field → AnalyzeRequest
-analyze_at level fields = record {
+abbrev pub analyze_request_at : ℕ → List Field → AnalyzeRequest
+analyze_request_at level fields = record {
   session_id = text_field 1 fields;
   user_context = context_of fields;
   analysis = analysis_at (level - 1) fields;
@@ -64,18 +64,18 @@ request_kind method.ReleaseExecute = kinds.ReleaseExecuteRequest
 
 -- the request of a method
 abbrev pub request_at : ℕ → Method → List Field → Request
-request_at level method.ExecutePlan fields = request.ExecutePlan (execute_at level fields)
-request_at level method.AnalyzePlan fields = request.AnalyzePlan (analyze_at level fields)
-request_at level method.Config fields = request.Config (config_of fields)
-request_at level method.Interrupt fields = request.Interrupt (interrupt_of fields)
-request_at level method.ReattachExecute fields = request.ReattachExecute (reattach_of fields)
-request_at level method.ReleaseExecute fields = request.ReleaseExecute (release_of fields)
+request_at level method.ExecutePlan fields = request.ExecutePlan (execute_request_at level fields)
+request_at level method.AnalyzePlan fields = request.AnalyzePlan (analyze_request_at level fields)
+request_at level method.Config fields = request.Config (config_request_of fields)
+request_at level method.Interrupt fields = request.Interrupt (interrupt_request_of fields)
+request_at level method.ReattachExecute fields = request.ReattachExecute (reattach_request_of fields)
+request_at level method.ReleaseExecute fields = request.ReleaseExecute (release_request_of fields)
 
 -- the method that a request asks
-abbrev pub method_of : Request → Method
-method_of (request.ExecutePlan it) = method.ExecutePlan
-method_of (request.AnalyzePlan it) = method.AnalyzePlan
-method_of (request.Config it) = method.Config
-method_of (request.Interrupt it) = method.Interrupt
-method_of (request.ReattachExecute it) = method.ReattachExecute
-method_of (request.ReleaseExecute it) = method.ReleaseExecute
+abbrev pub method_asked : Request → Method
+method_asked (request.ExecutePlan it) = method.ExecutePlan
+method_asked (request.AnalyzePlan it) = method.AnalyzePlan
+method_asked (request.Config it) = method.Config
+method_asked (request.Interrupt it) = method.Interrupt
+method_asked (request.ReattachExecute it) = method.ReattachExecute
+method_asked (request.ReleaseExecute it) = method.ReleaseExecute

@@ -15,13 +15,13 @@ use Rattle.connect_messages.specs.declared.request.Request.{Request}
 use Rattle.connect_messages.specs.declared.request.Request.TheVariants as request
 
 -- request_options 5, operation_id 6, tags 7
-abbrev pub option_fields : ExecuteRequest → List Field
-option_fields request = reattachable_fields request.reattachable ++ optional_payload_fields 6 request.operation_id ++ repeated_fields 7 request.tags
+abbrev pub execute_option_fields : ExecuteRequest → List Field
+execute_option_fields request = reattachable_fields request.reattachable ++ optional_payload_fields 6 request.operation_id ++ repeated_fields 7 request.tags
 
 -- session_id 1, user_context 2, plan 3, and the options
 abbrev pub execute_fields : ExecuteRequest → List Field
 execute_fields request =
-    text_fields 1 request.session_id ++ context_fields request.user_context ++ payload_fields 3 (spell (plan_fields request.plan)) ++ option_fields request
+    text_fields 1 request.session_id ++ context_fields request.user_context ++ payload_fields 3 (spell (plan_fields request.plan)) ++ execute_option_fields request
 
 -- a member whose message has a plan 1
 abbrev pub analyzed_fields : ℕ → Plan → List Field

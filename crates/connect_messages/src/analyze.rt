@@ -95,7 +95,7 @@ pub(crate) fn analyze_from(
     items: &[Record],
     level: u32,
 ) -> Result<AnalyzeRequest, OutOfMemory>
-    ensures { IfOk result (λ request. request ≡ requests.analyze_at level (seen items.now)) }
+    ensures { IfOk result (λ request. request ≡ requests.analyze_request_at level (seen items.now)) }
 {
     let session_id = text_field(alloc, items, 1)?;
     let user_context = context_from(alloc, items)?;

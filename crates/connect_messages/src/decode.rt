@@ -3,6 +3,7 @@ ghost use Rattle.proto_fields.specs.declared.fault.MessageFault.{MessageFault};
 ghost use Rattle.proto_fields.specs.Faults.{IsSound, IsCause, HasFault, Gives};
 ghost use Rattle.proto_fields.specs.Fields.{fields_of};
 ghost use Rattle.proto_fields.specs.Views.{seen};
+ghost use Rattle.connect_messages.specs.Known.{HasRequestBits};
 ghost use Rattle.connect_messages.specs.Requests as requests;
 
 use crate::Request;
@@ -54,9 +55,14 @@ fn request_from(
 ///
 /// The error is the first fault of the message, its own before those of its payloads, with its place in the bytes: `Wire`, `NotUtf8` or
 /// `TooDeep`. `OutOfMemory` says nothing of the bytes.
+#[tactic(auto, using(crate::proofs::AskedValid::request_is_valid, crate::proofs::AskedValid::request_asks))]
 pub fn decode_request(alloc: Global, method: Method, bytes: &[u8]) -> Result<Request, MessageFault>
     ensures sound { IfOk result (λ request. IsSound 200 (requests.request_kind method) bytes.now) }
     ensures fault { IfErr result (IsCause 200 (requests.request_kind method) bytes.now) }
+
+    // What is read has the bits of its types and UTF-8 texts, so that it can be written again, and it asks the method.
+    ensures valid { IfOk result HasRequestBits }
+    ensures method { IfOk result (λ request. requests.method_asked request ≡ method) }
 
     // A sound message is read, and a fault is the answer.
     ensures read { IsSound 200 (requests.request_kind method) bytes.now

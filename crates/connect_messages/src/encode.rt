@@ -1,7 +1,9 @@
 ghost use Rattle.std.specs.Prelude.{◌≡◌, ◌≤◌, ◌++◌, IfOk, OnOk};
 ghost use Rattle.proto_fields.specs.Spelling.{spell};
 ghost use Rattle.connect_messages.specs.Depths.{request_depth};
-ghost use Rattle.connect_messages.specs.Known.{IsKnownRequest};
+ghost use Rattle.expression_messages.specs.Laws.{IsReadAs};
+ghost use Rattle.connect_messages.specs.Known.{IsKnownRequest, HasRequestBits};
+ghost use Rattle.connect_messages.specs.Requests.{request_kind, method_asked, request_at};
 ghost use Rattle.connect_messages.specs.Spelled.{request_fields};
 
 use crate::Request;
@@ -33,9 +35,16 @@ fn put_request(out: &mut MessageWriter, request: &Request) -> Result<(), OutOfMe
 pub fn encode_request(alloc: Global, request: &Request) -> Result<Bytes, OutOfMemory>
     requires known { IsKnownRequest request.now }
     requires depth { request_depth request.now ≤ 200 }
-    ensures { IfOk result (λ bytes. bytes ≡ spell (request_fields request.now)) }
+    ensures exact { IfOk result (λ bytes. bytes ≡ spell (request_fields request.now)) }
+
+    // What is given is sound, and is read by the request's method as the request, whose numbers and texts are as those of every request that was
+    // read.
+    ensures read { HasRequestBits request.now
+        → IfOk result (λ bytes. IsReadAs 200 (request_kind (method_asked request.now)) bytes (request_at 200 (method_asked request.now)) request.now) }
 {
     let mut out = MessageWriter::with_room(alloc, request_size(request) as usize)?;
     put_request(&mut out, request)?;
-    Ok(out.finish())
+    let bytes = out.finish();
+    prove!(bytes.len() <= usize::MAX);
+    Ok(bytes)
 }

@@ -60,7 +60,7 @@ pub(crate) fn execute_from(
     items: &[Record],
     level: u32,
 ) -> Result<ExecuteRequest, OutOfMemory>
-    ensures { IfOk result (λ request. request ≡ requests.execute_at level (seen items.now)) }
+    ensures { IfOk result (λ request. request ≡ requests.execute_request_at level (seen items.now)) }
 {
     let session_id = text_field(alloc, items, 1)?;
     let user_context = context_from(alloc, items)?;

@@ -13,7 +13,7 @@ use request_messages::{context_size, put_context, put_reattachable, reattachable
 /// Puts the fields behind the request's plan before what stands.
 #[tactic(auto, using(expression_messages::proofs::Written::stand_three))]
 fn put_options(out: &mut MessageWriter, request: &ExecuteRequest) -> Result<(), OutOfMemory>
-    ensures { OnOk result (out.new ≡ spell (spelled.option_fields request.now) ++ out.old) }
+    ensures { OnOk result (out.new ≡ spell (spelled.execute_option_fields request.now) ++ out.old) }
 {
     put_texts(out, 7, request.tags.as_slice())?;
     out.put_optional_text(6, &request.operation_id)?;
@@ -39,7 +39,7 @@ pub(crate) fn put_execute(
 /// How many bytes the fields behind the request's plan take; 2^64 - 1 where it is above that.
 #[tactic(auto, using(expression_messages::proofs::Measured::sized_three))]
 fn options_size(request: &ExecuteRequest) -> u64
-    ensures { result ≡ size_of (spelled.option_fields request.now) }
+    ensures { result ≡ size_of (spelled.execute_option_fields request.now) }
 {
     let flag = reattachable_size(request.reattachable);
     let operation = optional_text_size(6, &request.operation_id);

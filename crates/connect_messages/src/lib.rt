@@ -15,7 +15,9 @@ pub use analyze::{Analysis, AnalyzeRequest};
 pub use decode::decode_request;
 pub use encode::encode_request;
 pub use execute::ExecuteRequest;
-pub use laws::{request_levels_agree, requests_are_read_back};
+pub use laws::{
+    asked_are_valid, asked_texts_are_kept, request_levels_agree, requests_are_read_back,
+};
 pub use request::Request;
 pub use request_measures::{is_known_request, request_depth, request_size};
 pub use request_messages::{
@@ -27,6 +29,3 @@ pub use response_messages::{
     InterruptResponse, KeyValue, Method, ReleaseExecuteResponse, Response, ResponseType,
     decode_response, encode_response, is_known_response, response_depth, response_size,
 };
-
-#[cfg(test)]
-mod tests;
