@@ -1,5 +1,5 @@
 -- A plan's message that is decoded: the plan is what was spelled, and no fault is left but want of memory. The plan of an ask has a spelling.
-use Rattle.std.proofs.Common.{◌≡◌, ℕ, ◌+◌, ◌^◌, ◌<◌, ◌≤◌, max, List, length, Result, Ok, Err, Some, None, refl, sym, ap, ◌∙◌, subst, arith}
+use Rattle.std.proofs.Common.{◌≡◌, ℕ, ◌+◌, ◌≤◌, max, List, Result, Ok, Err, Some, None, refl, sym, ap, ◌∙◌, subst, arith}
 use Rattle.std.specs.Prelude.{FitsSigned}
 use Rattle.std.specs.Int.{w64}
 use Rattle.std.proofs.lemmas.Bool.{false≢true}
@@ -9,8 +9,7 @@ use Rattle.proto_fields.specs.declared.fault.MessageFault.TheVariants as fault
 use Rattle.proto_fields.specs.declared.kind.MessageKind.TheVariants as kinds
 use Rattle.proto_fields.specs.Fields.{fields_of}
 use Rattle.proto_fields.specs.Faults.{IsSound, Gives}
-use Rattle.proto_fields.specs.Spelling.{spell}
-use Rattle.expression_messages.specs.Laws.{IsShort}
+use Rattle.expression_messages.specs.Laws.{IsReadAs}
 use Rattle.relation_members.specs.declared.member.RelationMember.TheVariants as V
 use Rattle.relation_members.specs.Depths.{member_depth}
 use Rattle.relation_members.specs.Known.{is_known_member}
@@ -23,10 +22,8 @@ use Rattle.relation_messages.specs.Known.{is_known_relation, HasRelationBitsHere
 use Rattle.relation_messages.proofs.Folds.{relation_deep, relation_known}
 use Rattle.plan_messages.specs.declared.plan.Plan.{Plan}
 use Rattle.plan_messages.specs.Plans.{plan_at}
-use Rattle.plan_messages.specs.Spelled.{plan_fields}
 use Rattle.plan_messages.specs.Depths.{plan_depth}
 use Rattle.plan_messages.specs.Known.{IsKnownPlan, HasPlanBits}
-use Rattle.plan_messages.proofs.PlanBack.{plan_read_back}
 use Rattle.connect_replay.specs.declared.ask.Ask.{Ask}
 use Rattle.connect_replay.specs.Message.{asked_range, asked_plan, range_in, root_range}
 
@@ -60,14 +57,11 @@ asked_bits ask start end step =
     every_made-Relation HasRelationBitsHere (asked_layer ask) (record { common = None; member = V.Range (asked_range ask) }) refl
     (record { common = tt; rest = record { start = start; end = end; step = step; num_partitions = tt } })
 
--- the decoder gives the plan that these bytes were spelled from
-pub asked_is_given : (ask : Ask) → HasPlanBits (asked_plan ask) → (bytes : List ℕ) → length bytes < 2 ^ 64 → bytes ≡ spell (plan_fields (asked_plan ask)) → (result : Result Plan MessageFault) →
-    (IsSound 200 kinds.Plan bytes → Gives result (Ok (plan_at 200 (fields_of bytes)))) → Gives result (Ok (asked_plan ask))
-asked_is_given ask bits bytes fits spelled result read =
-    let plan = asked_plan ask in
-    let short : IsShort (plan_fields plan) = subst (λ (b : List ℕ). length b < 2 ^ 64) spelled fits in
-    let back = plan_read_back 200 plan (asked_known ask) bits short (asked_deep ask) in
-    subst (λ (p : Plan). Gives result (Ok p)) (ap (λ (b : List ℕ). plan_at 200 (fields_of b)) spelled ∙ back.same) (read (subst (IsSound 200 kinds.Plan) (sym spelled) back.sound))
+-- the decoder gives the plan that the encoder was given
+pub asked_is_given : (asked plan : Plan) (message bytes : List ℕ) → bytes ≡ message → plan ≡ asked → IsReadAs 200 kinds.Plan message (plan_at 200) plan → (result : Result Plan MessageFault) →
+    (IsSound 200 kinds.Plan bytes → Gives result (Ok (plan_at 200 (fields_of bytes)))) → Gives result (Ok asked)
+asked_is_given asked plan message bytes same plan_is back result read =
+    subst (λ (p : Plan). Gives result (Ok p)) (ap (λ (b : List ℕ). plan_at 200 (fields_of b)) same ∙ back.same ∙ plan_is) (read (subst (IsSound 200 kinds.Plan) (sym same) back.sound))
 
 -- ---- what the decoder gives
 
