@@ -229,3 +229,7 @@ sort_order_valid level fields = record {
   child = expr_valid (level - 1) (message_at 1 fields);
   here = record { direction = int32_valid 2 fields; null_ordering = int32_valid 3 fields };
 }
+
+-- the type that a call read of any fields
+pub type_is_valid : (level : ℕ) (fields : List Field) (kind : TypeMessage) → kind ≡ type_at level fields → HasTypeBits kind
+type_is_valid level fields kind is = subst HasTypeBits (sym is) (type_valid level fields)

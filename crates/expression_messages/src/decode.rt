@@ -18,6 +18,7 @@ const MOST_LEVELS: u32 = 200;
 ///
 /// The error is the first fault of the message, its own before those of its payloads, with its place in the bytes: `Wire`, `NotUtf8` or
 /// `TooDeep`. `OutOfMemory` says nothing of the bytes.
+#[tactic(auto, using(crate::proofs::Valid::type_is_valid))]
 pub fn decode_type(alloc: Global, bytes: &[u8]) -> Result<TypeMessage, MessageFault>
     ensures sound { IfOk result (λ kind. IsSound 200 MessageKind.DataType bytes.now) }
     ensures fault { IfErr result (IsCause 200 MessageKind.DataType bytes.now) }
