@@ -14,7 +14,7 @@ use Rattle.std.proofs.lemmas.List.Sorted.{ranks_by, searchable_from_sorted, IsPa
 use Rattle.cn_types.specs.declared.row.Row.{Row}
 use Rattle.cn_types.specs.declared.value.Value.{Value}
 use Rattle.cn_types.specs.declared.value.Value.TheVariants.{Null}
-use Rattle.cn_types.specs.Order.{value_cmp, row_cmp, row_eq}
+use Rattle.cn_types.specs.Order.{value_cmp, row_cmp}
 use Rattle.cn_types.proofs.OrderFacts.{rows_ordered, rows_exact}
 use Rattle.relation_eval.specs.declared.buckets.Buckets.{Buckets}
 use Rattle.relation_eval.specs.declared.buckets.Placed.{Placed}

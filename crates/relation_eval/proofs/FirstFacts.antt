@@ -1,6 +1,6 @@
 -- The first row with each key.
 use Rattle.std.proofs.Common.{◌≡◌, ◌<◌, ◌≤◌, ℕ, zero, suc, ◌+◌, Bool, true, false, cond, List, [], ◌∷◌, ◌++◌, append_assoc, map, length, take, drop, get_or, refl, sym, ap, ◌∙◌, subst, arith, eqb, length-append, length-take-le}
-use Rattle.std.specs.Prelude.{not, ◌||◌, Option, None, Some, reverse}
+use Rattle.std.specs.Prelude.{not, ◌||◌, None, Some, reverse}
 use Rattle.std.specs.Borrow.{Bor}
 use Rattle.std.specs.List.{list_any}
 use Rattle.std.proofs.lemmas.Bool.Decides.{nat_tests}

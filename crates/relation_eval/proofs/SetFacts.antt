@@ -1,9 +1,8 @@
 -- Set operations by the first occurrence of each row.
-use Rattle.std.proofs.Common.{◌≡◌, ◌≢◌, ◌<◌, ◌≤◌, ℕ, zero, suc, ◌+◌, ◌*◌, Bool, true, false, cond, List, [], ◌∷◌, ◌++◌, append_assoc, append-nil, map, length, take, drop, get_or, refl, sym, ap, ◌∙◌, arith, rules}
-use Rattle.std.specs.Prelude.{not, None, replicate, sum_by, count_by, min, ◌==◌, ◌-◌, Result, Ok, Err}
-use Rattle.std.specs.List.{flat_map, list_any}
+use Rattle.std.proofs.Common.{◌≡◌, ◌≢◌, ◌<◌, ℕ, zero, suc, ◌+◌, ◌*◌, Bool, true, false, cond, List, [], ◌∷◌, ◌++◌, append_assoc, append-nil, map, length, take, drop, get_or, refl, sym, ap, ◌∙◌, arith}
+use Rattle.std.specs.Prelude.{not, None, replicate, sum_by, count_by, min, ◌==◌, ◌-◌, Ok, Err}
+use Rattle.std.specs.List.{list_any}
 use Rattle.std.proofs.lemmas.Bool.Decides.{nat_tests}
-use Rattle.std.proofs.lemmas.List.{at_drop_more}
 use Rattle.std.proofs.lemmas.Bool.{lt-ltb}
 use Rattle.std.proofs.lemmas.List.Sums.{sum_by-cons}
 use Rattle.cn_types.specs.declared.row.Row.{Row}
@@ -16,7 +15,7 @@ use Rattle.plan_model.proofs.Multisets.{count_by-flat_map, count_of_rest}
 use Rattle.plan_model.proofs.RowCounts.{row_exact, count-append}
 use Rattle.relation_eval.specs.Copies.{repeated, all_repeated, number_where}
 use Rattle.relation_eval.specs.Firsts.{is_among, flags_after, flagged, firsts}
-use Rattle.relation_eval.specs.Places.{Columns, key_by, has_key, places_from, places_of}
+use Rattle.relation_eval.specs.Places.{key_by, places_from}
 use Rattle.relation_eval.proofs.FirstFacts.{firsts_once, flagged_next}
 
 -- ---- counts

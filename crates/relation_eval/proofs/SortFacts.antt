@@ -1,8 +1,7 @@
 -- Rows that are sorted by keys found once are sorted by their keys.
-use Rattle.std.proofs.Common.{◌≡◌, ◌<◌, ◌≤◌, ℕ, zero, suc, ◌+◌, Bool, true, false, List, [], ◌∷◌, ◌++◌, append_assoc, map, length, get_or, refl, sym, ap, ◌∙◌, subst, arith, length-append}
-use Rattle.std.specs.Prelude.{All, AllPairs, IsPermutation}
-use Rattle.std.specs.declared.cmp.Ordering.{Ordering}
-use Rattle.std.specs.declared.cmp.Ordering.TheVariants.{Less, Equal, Greater}
+use Rattle.std.proofs.Common.{◌≡◌, ◌<◌, ℕ, zero, suc, Bool, true, false, List, [], ◌∷◌, ◌++◌, append_assoc, map, length, get_or, refl, sym, ap, ◌∙◌, subst, arith, length-append}
+use Rattle.std.specs.Prelude.{All, IsPermutation}
+use Rattle.std.specs.declared.cmp.Ordering.TheVariants.{Less, Equal}
 use Rattle.std.specs.Cmp.{IsTotalOrder, IsStrictWeakOrder, bool_cmp_total}
 use Rattle.std.specs.List.Sorted.{IsSortedBy}
 use Rattle.std.specs.Ordering.{is_lt, ordering_then}
@@ -10,13 +9,14 @@ use Rattle.std.proofs.lemmas.Cmp.{on_total, then_total, back_total}
 use Rattle.std.proofs.Math.ListN.{get_or-map}
 use Rattle.std.proofs.lemmas.List.{length-map}
 use Rattle.std.proofs.lemmas.List.Sorted.{ranks_by, sorted_far, IsPermutation-map, All-permutation}
+use Rattle.cn_types.specs.Fit.{value_at}
 use Rattle.cn_types.specs.declared.row.Row.{Row}
 use Rattle.cn_types.specs.declared.value.Value.{Value}
 use Rattle.cn_types.proofs.OrderFacts.{values_ordered}
 use Rattle.plan_model.specs.declared.node.SortKey.{SortKey}
 use Rattle.plan_model.specs.Sorting.{nulls_order, values_order, rows_order, IsSort}
 use Rattle.plan_model.specs.Truth.{is_present}
-use Rattle.plan_model.specs.Val.{val, value_at}
+use Rattle.plan_model.specs.Val.{val}
 use Rattle.relation_eval.specs.declared.sorting.Keyed.{Keyed}
 use Rattle.relation_eval.specs.SortKeys.{value_order, found_order, key_exprs}
 use Rattle.relation_eval.specs.KeyedRows.{with_keys, row_of_keyed, is_before}
@@ -32,7 +32,7 @@ values_total false = values_ordered
 found_total : (keys : List SortKey) (place : ℕ) → IsTotalOrder (found_order keys place)
 found_total [] place = record { antisymm = λ x y. refl; trans = λ x y z (p : Equal ≡ Less) q. cc; congr = λ x y z p. refl }
 found_total (key ∷ keys) place =
-    then_total (on_total (λ row. value_at row place) (then_total (nulls_total key.nulls_last) (values_total key.descending))) (found_total keys (suc place))
+    then_total (on_total (λ row. value_at place row) (then_total (nulls_total key.nulls_last) (values_total key.descending))) (found_total keys (suc place))
 
 -- the order by found keys is a strict order with ties
 pub before_orders : (keys : List SortKey) → IsStrictWeakOrder (is_before keys)
@@ -43,7 +43,7 @@ before_orders keys = ranks_by (found_total keys 0) (λ keyed. keyed.found)
 abbrev row_with : List Value → Row
 row_with values = record { 0 = values }
 
-value_at-append : (front rest : List Value) (value : Value) (place : ℕ) → length front ≡ place → value_at (row_with (front ++ (value ∷ rest))) place ≡ value
+value_at-append : (front rest : List Value) (value : Value) (place : ℕ) → length front ≡ place → value_at place (row_with (front ++ (value ∷ rest))) ≡ value
 value_at-append [] rest value zero e = refl
 value_at-append [] rest value (suc place) e = absurd (omega arith)
 value_at-append (first ∷ front) rest value zero e = absurd (omega arith)
@@ -58,8 +58,8 @@ order_of_found [] place front_a front_b a b e f = refl
 order_of_found (key ∷ keys) place front_a front_b a b e f =
     let va = val key.expr a in
     let vb = val key.expr b in
-    let here : value_at (row_with (front_a ++ (va ∷ key_values keys a))) place ≡ va = value_at-append front_a (key_values keys a) va place e in
-    let there : value_at (row_with (front_b ++ (vb ∷ key_values keys b))) place ≡ vb = value_at-append front_b (key_values keys b) vb place f in
+    let here : value_at place (row_with (front_a ++ (va ∷ key_values keys a))) ≡ va = value_at-append front_a (key_values keys a) va place e in
+    let there : value_at place (row_with (front_b ++ (vb ∷ key_values keys b))) ≡ vb = value_at-append front_b (key_values keys b) vb place f in
     let more_a : length (front_a ++ va ∷ []) ≡ suc place = omega (arith, length-append front_a (va ∷ [])) in
     let more_b : length (front_b ++ vb ∷ []) ≡ suc place = omega (arith, length-append front_b (vb ∷ [])) in
     let later : found_order keys (suc place) (row_with ((front_a ++ va ∷ []) ++ key_values keys a)) (row_with ((front_b ++ vb ∷ []) ++ key_values keys b)) ≡ rows_order keys a b
@@ -67,7 +67,7 @@ order_of_found (key ∷ keys) place front_a front_b a b e f =
     let moved : found_order keys (suc place) (row_with (front_a ++ (va ∷ key_values keys a))) (row_with (front_b ++ (vb ∷ key_values keys b))) ≡ rows_order keys a b
     = ap (λ (xs : List Value). found_order keys (suc place) (row_with xs) (row_with (front_b ++ (vb ∷ key_values keys b)))) (sym (append_assoc front_a (va ∷ []) (key_values keys a)))
     ∙ ap (λ (ys : List Value). found_order keys (suc place) (row_with ((front_a ++ va ∷ []) ++ key_values keys a)) (row_with ys)) (sym (append_assoc front_b (vb ∷ []) (key_values keys b))) ∙ later in
-    ap (λ x. ordering_then (value_order key x (value_at (row_with (front_b ++ (vb ∷ key_values keys b))) place)) (found_order keys (suc place) (row_with (front_a ++ (va ∷ key_values keys a))) (row_with (front_b ++ (vb ∷ key_values keys b))))) here
+    ap (λ x. ordering_then (value_order key x (value_at place (row_with (front_b ++ (vb ∷ key_values keys b))))) (found_order keys (suc place) (row_with (front_a ++ (va ∷ key_values keys a))) (row_with (front_b ++ (vb ∷ key_values keys b))))) here
     ∙ ap (λ y. ordering_then (value_order key va y) (found_order keys (suc place) (row_with (front_a ++ (va ∷ key_values keys a))) (row_with (front_b ++ (vb ∷ key_values keys b))))) there
     ∙ ap (λ o. ordering_then (value_order key va vb) o) moved
 

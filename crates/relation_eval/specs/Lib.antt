@@ -5,4 +5,5 @@ pub mod Given
 pub mod Grouped
 pub mod KeyedRows
 pub mod Places
+pub mod RangeRows
 pub mod SortKeys

@@ -21,8 +21,8 @@ pub(crate) struct Placed<'a> {
 /// The places of the rows of a list, by their values in columns.
 #[derive(Debug, Drop)]
 pub struct Buckets<'a, 'c> {
-    pub(crate) rows: &'a [Row],
-    pub(crate) columns: Option<&'c [u32]>,
+    pub rows: &'a [Row],
+    pub columns: Option<&'c [u32]>,
     /// The rows in the order of their values; those with the same values in the order of their places.
     entries: Vec<Placed<'a>>,
     /// The places of the entries.

@@ -1,12 +1,10 @@
-use Rattle.std.proofs.Common.{◌≡◌, ◌<◌, ◌≤◌, ℕ, List, length, drop, sym, ap, ◌∙◌, arith}
+use Rattle.std.proofs.Common.{◌≡◌, length, sym, ap, ◌∙◌, arith}
 use Rattle.std.specs.Prelude.{min, unwrap_or}
 use Rattle.std.specs.Option.{option_copied}
-use Rattle.std.specs.declared.cmp.Ordering.{Ordering}
 use Rattle.std.specs.declared.cmp.Ordering.TheVariants.{Less, Equal, Greater}
 use Rattle.std.specs.Ordering.{nat_cmp}
-use Rattle.cn_types.specs.declared.value.Value.{Value}
 use Rattle.cn_types.specs.declared.value.Value.TheVariants.{Null}
-use Rattle.cn_types.specs.Order.{value_cmp, row_cmp}
+use Rattle.cn_types.specs.Order.{value_cmp}
 use Rattle.relation_eval.specs.Places.{key_by}
 use Rattle.relation_eval.proofs.BucketFacts.{cell, cells_step, lengths_decide}
 use Rattle.relation_eval.proofs.buckets.compare_keys.Goals as goal

@@ -1,4 +1,4 @@
-use Rattle.std.proofs.Common.{◌≡◌, ◌∙◌, [], List, Bool, ap, subst}
+use Rattle.std.proofs.Common.{◌≡◌, ◌∙◌, [], List, Bool, ap}
 use Rattle.std.specs.Prelude.{Some}
 use Rattle.cn_types.specs.declared.row.Row.{Row}
 use Rattle.plan_model.specs.Outcomes.{limited}

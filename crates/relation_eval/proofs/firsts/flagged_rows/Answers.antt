@@ -1,4 +1,4 @@
-use Rattle.std.proofs.Common.{◌≡◌, ◌+◌, false, ◌∙◌, arith}
+use Rattle.std.proofs.Common.{◌≡◌, ◌+◌, false, ◌∙◌}
 use Rattle.std.specs.Prelude.{vec_len}
 use Rattle.relation_eval.proofs.FirstFacts.{still_front, kept_more, kept_same}
 use Rattle.relation_eval.proofs.firsts.flagged_rows.Goals as goal

@@ -1,5 +1,5 @@
-use Rattle.std.proofs.Common.{◌≡◌, ◌∙◌, ap}
-use Rattle.relation_eval.specs.Places.{head_is, places_of, key_by}
+use Rattle.std.proofs.Common.{◌∙◌, ap}
+use Rattle.relation_eval.specs.Places.{head_is}
 use Rattle.relation_eval.proofs.FirstFacts.{first_of_places}
 use Rattle.relation_eval.proofs.firsts.is_first.Goals as goal
 

@@ -1,4 +1,4 @@
-use Rattle.std.proofs.Common.{◌≡◌, ◌∙◌, ap, List, take, arith}
+use Rattle.std.proofs.Common.{◌∙◌, ap, List, take, arith}
 use Rattle.std.specs.Prelude.{None, not}
 use Rattle.cn_types.specs.declared.row.Row.{Row}
 use Rattle.cn_types.specs.Order.{count}

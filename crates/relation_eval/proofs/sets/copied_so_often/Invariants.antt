@@ -2,7 +2,6 @@ use Rattle.std.proofs.Common.{◌≡◌, ◌++◌, take, drop}
 use Rattle.std.specs.Prelude.{None}
 use Rattle.relation_eval.specs.Copies.{all_repeated}
 use Rattle.relation_eval.specs.Firsts.{flags_after, flagged, firsts}
-use Rattle.relation_eval.specs.Grouped.{IsGrouped}
 use Rattle.relation_eval.proofs.sets.copied_so_often.Given as goal
 
 abbrev pub invariant-loop-place : goal.invariant-loop-place

@@ -1,4 +1,4 @@
-use Rattle.std.proofs.Common.{◌≡◌, ◌∙◌, ap, List, ℕ, length}
+use Rattle.std.proofs.Common.{◌∙◌, ap, List, ℕ, length}
 use Rattle.std.specs.Prelude.{count_by}
 use Rattle.relation_eval.specs.Places.{Columns, has_key}
 use Rattle.relation_eval.proofs.SetFacts.{length-places}

@@ -1,4 +1,4 @@
-use Rattle.std.proofs.Common.{◌≡◌, ◌∙◌, ◌++◌, ◌∷◌, [], ap, arith}
+use Rattle.std.proofs.Common.{◌∙◌, ◌++◌, ◌∷◌, [], ap, arith}
 use Rattle.std.specs.Prelude.{replicate}
 use Rattle.relation_eval.proofs.SetFacts.{replicate-more}
 use Rattle.relation_eval.proofs.sets.push_copies.Goals as goal

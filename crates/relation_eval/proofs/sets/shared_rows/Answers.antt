@@ -1,4 +1,4 @@
-use Rattle.std.proofs.Common.{◌≡◌, ◌∙◌, ap, List}
+use Rattle.std.proofs.Common.{◌∙◌, ap, List}
 use Rattle.std.specs.Prelude.{None}
 use Rattle.cn_types.specs.declared.row.Row.{Row}
 use Rattle.plan_model.specs.Outcomes.{limited}

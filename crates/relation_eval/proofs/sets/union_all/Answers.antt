@@ -1,4 +1,4 @@
-use Rattle.std.proofs.Common.{◌≡◌, ◌<◌, ◌++◌, length, sym, ap, arith, length-append}
+use Rattle.std.proofs.Common.{◌<◌, ◌++◌, length, sym, ap, arith, length-append}
 use Rattle.plan_model.specs.Outcomes.{row_limit}
 use Rattle.relation_eval.specs.Given.{rows_of}
 use Rattle.relation_eval.proofs.SetFacts.{union_all_is, limited-many}

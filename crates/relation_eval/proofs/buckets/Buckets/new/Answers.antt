@@ -1,4 +1,4 @@
-use Rattle.std.proofs.Common.{◌≡◌, map, ◌∙◌, ap}
+use Rattle.std.proofs.Common.{map, ◌∙◌, ap}
 use Rattle.relation_eval.specs.Grouped.{place_of}
 use Rattle.relation_eval.proofs.BucketFacts.{stable_places}
 use Rattle.relation_eval.proofs.buckets.Buckets.new.Goals as goal

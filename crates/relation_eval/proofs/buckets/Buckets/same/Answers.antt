@@ -1,4 +1,4 @@
-use Rattle.std.proofs.Common.{◌≡◌, ◌∙◌}
+use Rattle.std.proofs.Common.{◌∙◌}
 use Rattle.relation_eval.specs.Places.{key_by}
 use Rattle.relation_eval.proofs.BucketFacts.{FindsPlaces, finds_places}
 use Rattle.relation_eval.proofs.buckets.Buckets.same.Goals as goal
