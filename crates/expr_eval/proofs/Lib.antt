@@ -1,4 +1,5 @@
 pub mod CalendarDates
+pub mod ConditionFacts
 pub mod ListSteps
 pub mod LiteralFacts
 pub mod Numerals

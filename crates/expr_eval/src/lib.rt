@@ -4,6 +4,7 @@
 mod arithmetic;
 mod casts;
 mod comparisons;
+mod condition_laws;
 mod conditionals;
 mod dates;
 mod forms;
@@ -13,5 +14,6 @@ mod texts;
 mod truth;
 mod values;
 
+pub use condition_laws::well_formed_is_in_range;
 pub use operand::Operand;
 pub use values::{holds, operand_of, value};
