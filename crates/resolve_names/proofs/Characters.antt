@@ -1,7 +1,7 @@
 -- What the walk over an identifier does at the bytes of a character, and at runs of bytes.
-use Rattle.std.proofs.Common.{◌≡◌, ◌≢◌, ℕ, ◌+◌, ◌/◌, ◌%◌, ◌≤◌, Bool, List, [], ◌∷◌, ◌++◌, true, false, cond, ltb, eqb, refl, ap, sym, subst, ◌∙◌, inl, inr, ◌⊎◌, Some, None, Option, arith, append_assoc, append-nil}
-use Rattle.std.specs.Prelude.{All, flat_map, option_map, ◌==◌, if◌then◌else◌}
-use Rattle.std.proofs.lemmas.Bool.Decides.{nat_tests, eqb_tells}
+use Rattle.std.proofs.Common.{◌≡◌, ◌≢◌, ℕ, ◌+◌, ◌/◌, ◌%◌, ◌≤◌, Bool, List, [], ◌∷◌, ◌++◌, true, false, cond, ltb, refl, ap, sym, subst, ◌∙◌, Some, None, Option, arith, append_assoc}
+use Rattle.std.specs.Prelude.{All, ◌==◌}
+use Rattle.std.proofs.lemmas.Bool.Decides.{nat_tests}
 use Rattle.std.proofs.lemmas.List.Elements.{All-cons, All-head, All-nil, All-tail}
 use Rattle.std.proofs.lemmas.Str.Ascii.{encode_ascii}
 use Rattle.std.proofs.lemmas.Bool.{ltb-true, ltb-false}
@@ -9,8 +9,8 @@ use lib.Utf8.{encode}
 use Rattle.resolve_names.specs.declared.identifier.Place.{Place}
 use Rattle.resolve_names.specs.declared.identifier.Place.TheVariants.{Start, Bare, Quoted, Closing}
 use Rattle.resolve_names.specs.declared.identifier.Effect.{Effect}
-use Rattle.resolve_names.specs.declared.identifier.Effect.TheVariants.{Keep, Skip, End, Refuse}
-use Rattle.resolve_names.specs.Identifiers.{IsPlainByte, after, at_end, in_front, join_first, parts_from, step}
+use Rattle.resolve_names.specs.declared.identifier.Effect.TheVariants.{Keep, Refuse}
+use Rattle.resolve_names.specs.Identifiers.{IsPlainByte, after, in_front, join_first, parts_from, step}
 
 pub join_first-twice : (a b : List ℕ) (parts : List (List ℕ)) → join_first a (join_first b parts) ≡ join_first (a ++ b) parts
 join_first-twice a b [] = refl

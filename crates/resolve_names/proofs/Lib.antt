@@ -1,5 +1,7 @@
 pub mod Characters
+pub mod Folding
+pub mod OnlyOne
+pub mod Outcomes
 pub mod Reading
 pub mod Sound
 pub mod Walking
-pub mod Outcomes

@@ -1,14 +1,14 @@
 -- A spelling of parts is read as them.
-use Rattle.std.proofs.Common.{◌≡◌, ◌≢◌, ℕ, Bool, List, [], ◌∷◌, ◌++◌, true, false, cond, refl, ap, sym, subst, ◌∙◌, inl, inr, ◌⊎◌, Some, None, Option, arith, append_assoc, append-nil}
-use Rattle.std.specs.Prelude.{All, flat_map, option_map, ◌==◌}
+use Rattle.std.proofs.Common.{◌≡◌, ◌≢◌, ℕ, Bool, List, [], ◌∷◌, ◌++◌, true, false, cond, refl, ap, sym, ◌∙◌, inl, inr, ◌⊎◌, Some, Option, append_assoc, append-nil}
+use Rattle.std.specs.Prelude.{flat_map, option_map, ◌==◌}
 use Rattle.std.proofs.lemmas.Bool.Decides.{eqb_tells}
 use Rattle.std.proofs.lemmas.List.Elements.{All-head, All-tail}
 use Rattle.std.proofs.lemmas.List.Concat.{flat_map-cons}
 use Rattle.resolve_names.specs.declared.identifier.Place.{Place}
 use Rattle.resolve_names.specs.declared.identifier.Place.TheVariants.{Start, Bare, Quoted, Closing}
 use Rattle.resolve_names.specs.declared.identifier.Effect.{Effect}
-use Rattle.resolve_names.specs.declared.identifier.Effect.TheVariants.{Keep, Skip, End, Refuse}
-use Rattle.resolve_names.specs.Identifiers.{IsPlainByte, IsPlain, IsPart, IsIdentifier, doubled, quoted, after, at_end, in_front, parts_from, step}
+use Rattle.resolve_names.specs.declared.identifier.Effect.TheVariants.{Keep, Skip, End}
+use Rattle.resolve_names.specs.Identifiers.{IsPlainByte, IsPlain, IsPart, IsIdentifier, doubled, after, at_end, in_front, parts_from, step}
 use Rattle.resolve_names.proofs.Characters.{in_front-nil, in_front-twice, run, step-plain}
 
 abbrev Parts : Type 0

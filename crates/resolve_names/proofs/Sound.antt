@@ -1,15 +1,13 @@
 -- What is read spells the parts that were read.
-use Rattle.std.proofs.Common.{arith, ◌≡◌, ◌≢◌, ℕ, Bool, List, [], ◌∷◌, ◌++◌, true, false, cond, refl, ap, sym, subst, ◌∙◌, inl, inr, ◌⊎◌, Some, None, Option, append_assoc, append-nil}
-use Rattle.std.specs.Prelude.{All, flat_map, option_map, ◌↔◌, ◌==◌, unwrap_or}
+use Rattle.std.proofs.Common.{arith, ◌≡◌, ◌≢◌, ℕ, Bool, List, [], ◌∷◌, ◌++◌, cond, refl, ap, sym, subst, ◌∙◌, inl, inr, Some, None, Option, append_assoc, append-nil}
+use Rattle.std.specs.Prelude.{All, flat_map, option_map, ◌↔◌}
 use Rattle.std.proofs.lemmas.Bool.Decides.{eqb_tells}
 use Rattle.std.proofs.lemmas.List.Elements.{All-cons, All-nil, All-push}
-use Rattle.std.proofs.lemmas.List.Concat.{flat_map-cons}
 use Rattle.std.proofs.lemmas.Grind.{flat_map-append}
 use Rattle.resolve_names.specs.declared.identifier.Place.{Place}
 use Rattle.resolve_names.specs.declared.identifier.Place.TheVariants.{Start, Bare, Quoted, Closing}
 use Rattle.resolve_names.specs.declared.identifier.Effect.{Effect}
-use Rattle.resolve_names.specs.declared.identifier.Effect.TheVariants.{Keep, Skip, End, Refuse}
-use Rattle.resolve_names.specs.Identifiers.{IsPlainByte, IsPlain, IsPart, IsIdentifier, doubled, quoted, after, at_end, in_front, parts_from, parts_in, step}
+use Rattle.resolve_names.specs.Identifiers.{IsPlainByte, IsPlain, IsPart, IsIdentifier, doubled, quoted, after, in_front, parts_from, parts_in}
 use Rattle.resolve_names.proofs.Characters.{in_front-nil, in_front-twice, plain_step, step-plain}
 use Rattle.resolve_names.proofs.Reading.{read}
 use Rattle.resolve_names.specs.Laws.{OneReading}
@@ -112,9 +110,9 @@ at_byte b rest later =
     elim (eqb_tells b 46) [
       | inl dot ↦ subst (λ (c : ℕ). Sound (c ∷ rest)) (sym dot.1) (at_dot rest later)
       | inr no_dot ↦ elim (eqb_tells b 96) [
-          | inl quote ↦ subst (λ (c : ℕ). Sound (c ∷ rest)) (sym quote.1) (at_quote rest later)
-          | inr no_quote ↦ at_plain b rest (no_dot.1, no_quote.1) later
-        ]
+        | inl quote ↦ subst (λ (c : ℕ). Sound (c ∷ rest)) (sym quote.1) (at_quote rest later)
+        | inr no_quote ↦ at_plain b rest (no_dot.1, no_quote.1) later
+      ]
     ]
 
 ended : (text part : List ℕ) (parts : List (List ℕ)) → IsPart text part → ◌≡◌ {A = Parts} (Some ((part ++ []) ∷ [])) (Some parts) → IsIdentifier (text ++ []) parts

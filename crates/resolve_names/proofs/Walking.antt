@@ -3,7 +3,7 @@ use Rattle.std.proofs.Common.{◌≡◌, ℕ, List, [], ◌∷◌, ◌++◌, ref
 use Rattle.std.specs.Prelude.{option_map}
 use lib.Utf8.{encode}
 use Rattle.resolve_names.specs.declared.identifier.Place.{Place}
-use Rattle.resolve_names.specs.declared.identifier.Place.TheVariants.{Start, Bare, Quoted, Closing}
+use Rattle.resolve_names.specs.declared.identifier.Place.TheVariants.{Start}
 use Rattle.resolve_names.specs.declared.identifier.Effect.{Effect}
 use Rattle.resolve_names.specs.declared.identifier.Effect.TheVariants.{Keep, Skip, End, Refuse}
 use Rattle.resolve_names.specs.Identifiers.{after, at_end, in_front, join_first, parts_from, parts_in, step}

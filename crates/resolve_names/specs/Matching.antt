@@ -1,5 +1,5 @@
 -- When two names match: exactly, or where they are the same in ASCII lower case. Which setting says so.
-use Rattle.std.specs.Prelude.{ℕ, Bool, true, false, if◌then◌else◌, List, Option, None, Some, bytes_eq, codes, find, option_and_then}
+use Rattle.std.specs.Prelude.{ℕ, Bool, true, false, List, Option, None, Some, bytes_eq, codes, find, option_and_then}
 use Rattle.std.specs.Str.{str_eq_ignore_ascii_case}
 use Rattle.cn_types.specs.declared.settings.Pair.{Pair}
 use Rattle.cn_types.specs.declared.settings.Settings.{Settings}

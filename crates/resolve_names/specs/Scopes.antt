@@ -1,9 +1,8 @@
 -- Which column an attribute names. `I` is what tells columns apart, and `same` whether two such are one.
-use Rattle.std.specs.Prelude.{ℕ, ◌-◌, ◌&&◌, ◌||◌, nat_eq, nat_lt, zip, Bool, true, false, if◌then◌else◌, ℤ, List, [], ◌∷◌, length, take, slice_index_or, count_by, position, find, Option, None, Some, Ok, Err}
+use Rattle.std.specs.Prelude.{ℕ, ◌-◌, ◌&&◌, ◌||◌, nat_eq, nat_lt, zip, Bool, false, if◌then◌else◌, ℤ, List, [], ◌∷◌, length, take, slice_index_or, count_by, position, find, Option, None, Some}
 use Rattle.std.specs.Fmt.{signed_decimal}
 use Rattle.std.specs.List.{list_all}
 use Rattle.std.specs.Ordering.{int_eq}
-use Rattle.resolve_names.specs.declared.error.ErrorName.{ErrorName}
 use Rattle.resolve_names.specs.declared.error.ErrorName.TheVariants.{UnresolvedColumn, AmbiguousReference, BadIdentifier, CannotResolvePlanId}
 use Rattle.resolve_names.specs.declared.scope.ColumnOf.{ColumnOf}
 use Rattle.resolve_names.specs.declared.scope.Tagged.{Tagged}

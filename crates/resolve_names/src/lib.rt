@@ -8,10 +8,14 @@ mod lookup;
 mod matching;
 mod scope;
 mod setting;
+#[cfg(test)]
+mod tests;
 
 pub use error::{AnalysisError, ErrorName, ResolveStop, analysis_stop};
 pub use identifier::identifier_parts;
-pub use laws::identifiers_have_one_reading;
+pub use laws::{
+    folded_spellings_answer_alike, found_columns_are_the_only_ones, identifiers_have_one_reading,
+};
 pub use lookup::{attribute_place, is_named, named_place};
 pub use matching::names_match;
 pub use scope::{ColumnList, ColumnOf, Scope, ScopeColumn, Tagged};

@@ -1,4 +1,4 @@
-ghost use Rattle.std.specs.Prelude.{◌≡◌, ◌≢◌, count_by, position, find, zip, IfOk, IfErr, Ok, Err, nat_eq};
+ghost use Rattle.std.specs.Prelude.{◌≡◌, ◌≢◌, count_by, position, find, zip, nat_lt, IfOk, IfErr, Ok, Err, nat_eq};
 ghost use Rattle.std.specs.Option.{option_copied};
 ghost use Rattle.std.specs.Fmt.{signed_decimal};
 ghost use Rattle.std.specs.List.{list_all};
@@ -100,7 +100,7 @@ pub fn named_place<I>(
     ensures ok { IfOk result (λ place. scopes.named_place case_sensitive identifier.now parts.now columns.now ≡ Ok place) }
     ensures refused { IfErr result (λ e. e ≢ no_memory → scopes.named_place case_sensitive identifier.now parts.now columns.now ≡ Err e) }
 {
-    if count_named(case_sensitive, parts, columns) > 1 {
+    if several_named(case_sensitive, parts, columns) {
         return Err(analysis_stop(alloc, ErrorName::AmbiguousReference, identifier));
     }
     match first_named(case_sensitive, parts, columns) {
@@ -121,13 +121,19 @@ fn named_column<'a, I>(
     ensures ok { IfOk result (λ column. scopes.named_column case_sensitive identifier.now parts.now columns.now ≡ Ok column.now) }
     ensures refused { IfErr result (λ e. e ≢ no_memory → scopes.named_column case_sensitive identifier.now parts.now columns.now ≡ Err e) }
 {
-    if count_named(case_sensitive, parts, columns) > 1 {
+    if several_named(case_sensitive, parts, columns) {
         return Err(analysis_stop(alloc, ErrorName::AmbiguousReference, identifier));
     }
     match find_named(case_sensitive, parts, columns) {
         Some(column) => Ok(column),
         None => Err(analysis_stop(alloc, ErrorName::UnresolvedColumn, identifier)),
     }
+}
+
+fn several_named<I>(case_sensitive: bool, parts: &[Text], columns: &[ColumnOf<I>]) -> bool
+    ensures { result ≡ nat_lt 1 (count_by (scopes.is_named case_sensitive parts.now) columns.now) }
+{
+    count_named(case_sensitive, parts, columns) > 1
 }
 
 fn count_named<I>(case_sensitive: bool, parts: &[Text], columns: &[ColumnOf<I>]) -> usize
@@ -188,10 +194,11 @@ fn qualifier_matches(case_sensitive: bool, parts: &[Text], qualifier: &[Text]) -
 fn all_match(case_sensitive: bool, parts: &[Text], qualifier: &[Text]) -> bool
     ensures { result ≡ list_all (λ pair. name_matches case_sensitive pair.0 pair.1) (zip parts.now qualifier.now) }
 {
-    parts
-        .iter()
-        .zip(qualifier.iter())
-        .all(|(part, own)| names_match(case_sensitive, part.as_str(), own.as_str()))
+    parts.iter().zip(qualifier.iter()).all(|(part, own)| names_match(
+        case_sensitive,
+        part.as_str(),
+        own.as_str(),
+    ))
 }
 
 /// The one relation with a plan id.

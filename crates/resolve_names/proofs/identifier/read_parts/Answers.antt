@@ -1,7 +1,6 @@
-use Rattle.std.proofs.Common.{rules, ◌≡◌, ◌++◌, refl, sym, ap, subst, ◌∙◌, List, ℕ, []}
+use Rattle.std.proofs.Common.{◌≡◌, ◌++◌, sym, subst, List, ℕ}
 use Rattle.std.specs.String.{string_bytes}
 use lib.Utf8.{encode}
-use Rattle.resolve_names.specs.declared.identifier.Place.TheVariants.{Start}
 use Rattle.resolve_names.proofs.Walking.{IsWalked, begins, ended, kept, refused, skipped}
 use Rattle.resolve_names.proofs.identifier.read_parts.Goals as goal
 
