@@ -1,0 +1,4 @@
+pub mod Tables
+pub mod ListCases
+pub mod Whens
+pub mod Commons

@@ -1,0 +1,15 @@
+//! The built-in functions by their names, the arguments that each takes, and the types of calls and casts.
+#![tactic(auto)]
+
+mod asked;
+mod call;
+mod casting;
+mod folding;
+mod function_names;
+mod kinds;
+mod slices;
+
+pub use asked::{Asked, is_aggregate, takes};
+pub use call::{aggregate_kind, call_kind};
+pub use casting::{can_cast, kind_named};
+pub use function_names::function_named;
