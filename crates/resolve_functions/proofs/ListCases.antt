@@ -30,6 +30,7 @@ pair_is (a ∷ b ∷ []) d e is = refl
 pair_is (a ∷ b ∷ c ∷ items) d e is = absurd (omega (arith, is))
 
 pub ruleset singles = (single_other, single_is)
+
 pub ruleset pairs = (pair_other, pair_is)
 
 pub by_one_single : (f : DataType → Option DataType) (kinds : List DataType) → by_one f kinds ≡ option_and_then f (single_of kinds)

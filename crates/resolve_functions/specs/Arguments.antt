@@ -125,12 +125,21 @@ mismatch name = refusal DatatypeMismatch name
 
 -- ---- arguments from left to right
 
+abbrev pub kind_meets : List ℕ → Asked → DataType → Checked (Unit {0})
+kind_meets name asked kind = if meets asked kind then Ok tt else refused (mismatch name)
+
+abbrev pub one_meets : List ℕ → Asked → Option TypedExpr → Checked (Unit {0})
+one_meets name asked None = refused untyped
+one_meets name asked (Some expr) = kind_meets name asked (kind_of expr)
+
 -- each has a type that meets what is asked of it
-abbrev pub each_meets : List ℕ → Asked → Asked → List (Option TypedExpr) → Checked (List TypedExpr)
-each_meets name first later [] = Ok []
-each_meets name first later (None ∷ rest) = refused untyped
-each_meets name first later (Some expr ∷ rest) =
-    if meets first (kind_of expr) then (each_meets name later later rest >>= λ exprs. Ok (expr ∷ exprs)) else refused (mismatch name)
+abbrev pub each_meets : List ℕ → Asked → Asked → List (Option TypedExpr) → Checked (Unit {0})
+each_meets name first later [] = Ok tt
+each_meets name first later (argument ∷ rest) = one_meets name first argument >>= λ met. each_meets name later later rest
+
+-- the arguments that have a type
+abbrev pub known : List (Option TypedExpr) → List TypedExpr
+known arguments = filter_map (λ argument. argument) arguments
 
 -- ---- arguments of one type
 
@@ -143,7 +152,7 @@ abbrev pub known_kinds : List (Option TypedExpr) → List DataType
 known_kinds arguments = filter_map known_kind arguments
 
 -- the type that the arguments have together: there must be one with a type, and all such must go together
-abbrev pub together : List ℕ → List DataType → Checked DataType
+unfoldable pub together : List ℕ → List DataType → Checked DataType
 together name [] = refused untyped
 together name (kind ∷ kinds) = or_refused (mismatch name) (common_of (kind ∷ kinds))
 
@@ -166,22 +175,33 @@ values (condition ∷ value ∷ rest) = value ∷ values rest
 
 -- ---- the call
 
-abbrev pub call_of : List ℕ → Function → List TypedExpr → Checked TypedExpr
+unfoldable pub call_of : List ℕ → Function → List TypedExpr → Checked TypedExpr
 call_of name function exprs = do
   kind ← or_refused (mismatch name) (call_type function (kinds_of exprs))
   Ok (typed.Call function exprs kind)
 
-abbrev pub call_asked : List ℕ → Function → Asked → Asked → List (Option TypedExpr) → Checked TypedExpr
-call_asked name function Same later arguments = do
+unfoldable pub plain_call : List ℕ → Function → Asked → Asked → List (Option TypedExpr) → Checked TypedExpr
+plain_call name function first later arguments = do
+  met ← each_meets name first later arguments
+  call_of name function (known arguments)
+
+unfoldable pub same_call : List ℕ → Function → List (Option TypedExpr) → Checked TypedExpr
+same_call name function arguments = do
   kind ← together name (known_kinds arguments)
   call_of name function (map (filled kind) arguments)
-call_asked name function When later arguments = do
-  booleans ← each_meets name (Only DataType.Boolean) (Only DataType.Boolean) (conditions arguments)
+
+unfoldable pub when_call : List ℕ → Function → List (Option TypedExpr) → Checked TypedExpr
+when_call name function arguments = do
+  met ← each_meets name (Only DataType.Boolean) (Only DataType.Boolean) (conditions arguments)
   kind ← together name (known_kinds (values arguments))
   call_of name function (map (filled kind) arguments)
-call_asked name function first later arguments = do
-  exprs ← each_meets name first later arguments
-  call_of name function exprs
+
+abbrev pub call_asked : List ℕ → Function → Asked → Asked → List (Option TypedExpr) → Checked TypedExpr
+call_asked name function Same later arguments = same_call name function arguments
+call_asked name function When later arguments = when_call name function arguments
+call_asked name function AnyKind later arguments = plain_call name function AnyKind later arguments
+call_asked name function Number later arguments = plain_call name function Number later arguments
+call_asked name function (Only kind) later arguments = plain_call name function (Only kind) later arguments
 
 -- the call of a function over these arguments, with its type; errors tell it by this name
 unfoldable pub typed_call : List ℕ → Function → List (Option TypedExpr) → Checked TypedExpr

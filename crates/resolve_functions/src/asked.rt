@@ -25,10 +25,7 @@ pub fn is_aggregate(function: Function) -> bool
     ensures { result ≡ arguments.is_aggregate function }
 {
     match function {
-        Function::Count
-        | Function::Sum
-        | Function::Min
-        | Function::Max => true,
+        Function::Count | Function::Sum | Function::Min | Function::Max => true,
         Function::Add
         | Function::Subtract
         | Function::Multiply
@@ -104,10 +101,8 @@ pub fn takes(function: Function, count: usize) -> bool
         | Function::Sum
         | Function::Min
         | Function::Max => count == 1,
-        Function::Coalesce
-        | Function::Concat => count >= 1,
-        Function::When
-        | Function::In => count >= 2,
+        Function::Coalesce | Function::Concat => count >= 1,
+        Function::When | Function::In => count >= 2,
     }
 }
 
@@ -134,14 +129,9 @@ pub(crate) fn asked_first(function: Function) -> Asked
         | Function::EqualNullSafe
         | Function::Coalesce
         | Function::In => Asked::Same,
-        Function::And
-        | Function::Or
-        | Function::Not => Asked::Only(DataType::Boolean),
-        Function::IsNull
-        | Function::IsNotNull
-        | Function::Count
-        | Function::Min
-        | Function::Max => Asked::AnyKind,
+        Function::And | Function::Or | Function::Not => Asked::Only(DataType::Boolean),
+        Function::IsNull | Function::IsNotNull | Function::Count | Function::Min | Function::Max =>
+            Asked::AnyKind,
         Function::When => Asked::When,
         Function::Concat
         | Function::Length
@@ -163,8 +153,7 @@ pub(crate) fn asked_later(function: Function) -> Asked
     ensures { result ≡ arguments.asked_later function }
 {
     match function {
-        Function::DateAdd
-        | Function::DateSub => Asked::Only(DataType::Integer),
+        Function::DateAdd | Function::DateSub => Asked::Only(DataType::Integer),
         Function::Add
         | Function::Subtract
         | Function::Multiply

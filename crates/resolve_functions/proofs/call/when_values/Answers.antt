@@ -10,5 +10,5 @@ pub loop-at-preserved : goal.loop-at-preserved
 loop-at-preserved c = (
   omega arith,
   rw c.in_ok-push.ensures.ok
-  (gather_more c.args.kinds.now c.loop-at.values c.loop-at.at _ _ c.loop-at.invariant.1 c.loop-at-test.true (sym c.is_boolean.ensures ∙ c.if-not-is_boolean.false)),
+      (gather_more c.args.kinds.now c.loop-at.values c.loop-at.at _ _ c.loop-at.invariant.1 c.loop-at-test.true (sym c.is_boolean.ensures ∙ c.if-not-is_boolean.false)),
 )

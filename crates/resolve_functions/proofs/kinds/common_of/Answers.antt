@@ -8,5 +8,5 @@ pub loop-at-preserved : goal.loop-at-preserved
 loop-at-preserved c = (
   omega arith,
   c.with_common-found.ensures ∙ ap (option_and_then (common _)) c.loop-at.invariant.1
-  ∙ sym (common_step c.args.kinds.now c.loop-at.at _ c.loop-at-test.true c.loop-at.invariant.0),
+      ∙ sym (common_step c.args.kinds.now c.loop-at.at _ c.loop-at-test.true c.loop-at.invariant.0),
 )
