@@ -1,20 +1,19 @@
 -- Well-formed expressions and rows that fit have their dates in range.
-use Rattle.std.proofs.Common.{◌≡◌, ℕ, zero, suc, List, [], ◌∷◌, arith}
+use Rattle.std.proofs.Common.{zero, suc, List, [], ◌∷◌, arith}
 use Rattle.std.specs.Prelude.{All}
 use Rattle.std.specs.List.{AllByRecursion}
-use Rattle.cn_types.specs.declared.row.Row.{Row}
 use Rattle.cn_types.specs.declared.value.DataType.{DataType}
 use Rattle.cn_types.specs.declared.value.DataType.TheVariants as K
 use Rattle.cn_types.specs.declared.value.Value.{Value}
-use Rattle.cn_types.specs.declared.value.Value.TheVariants.{Null, Date}
-use Rattle.cn_types.specs.Fit.{HasType, HaveTypes, HasDateInRange, FitsTypes}
+use Rattle.cn_types.specs.declared.value.Value.TheVariants.{Date}
+use Rattle.cn_types.specs.Fit.{HasType, HaveTypes, HasDateInRange}
 use Rattle.plan_model.specs.declared.expression.TypedExpr.{TypedExpr}
 use Rattle.plan_model.specs.declared.expression.TypedExpr.TheOpen as O
 use Rattle.plan_model.specs.declared.expression.TypedExpr.TheVariants as V
 use Rattle.plan_model.specs.WellFormed.{IsFormOver, IsOver}
 use Rattle.plan_model.proofs.ExpressionFacts.{Forms, induct, every_part, every_here, made-Column, made-Literal, made-Call, made-Cast}
 use Rattle.expr_eval.specs.ConditionLaws.{WellFormedIsInRange}
-use Rattle.expr_eval.specs.Dated.{IsFormInRange, HasLiteralsInRange, HasDatesInRange}
+use Rattle.expr_eval.specs.Dated.{IsFormInRange, HasLiteralsInRange}
 
 date_of_type : (kind : DataType) (value : Value) → HasType kind value → HasDateInRange value
 date_of_type K.Date (Date day) h = h
