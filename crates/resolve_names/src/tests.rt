@@ -1,4 +1,7 @@
-use crate::{ColumnOf, ResolveStop, ScopeColumn, attribute_place, identifier_parts};
+use crate::{
+    AnalysisError, ColumnList, ColumnOf, ErrorName, ResolveStop, ScopeColumn, attribute_place,
+    identifier_parts,
+};
 use cn_base::{List, OutOfMemory, Text};
 use cn_types::DataType;
 use std::alloc::Global;
@@ -92,5 +95,17 @@ fn attributes_are_found(rt: HostRuntime) -> Result<(), Fail> {
         let place = attribute_place(rt.alloc(), *exact, scope.as_slice(), &[], identifier, None);
         assert_eq!(rt; outcome(rt.alloc(), place)?.as_str(), *wanted);
     }
+    Ok(())
+}
+
+#[test]
+fn owners_share(rt: HostRuntime) -> Result<(), Fail> {
+    let detail = Text::of(rt.alloc(), "t.k")?;
+    let error = AnalysisError::new(rt.alloc(), ErrorName::UnresolvedColumn, detail)?;
+    let other = error.share()?;
+    assert_eq!(rt; other.detail.as_str(), "t.k");
+    let list = ColumnList::of(rt.alloc(), columns(rt.alloc())?)?;
+    let again = list.share()?;
+    assert_eq!(rt; again.as_slice().len(), 3);
     Ok(())
 }

@@ -1,0 +1,2 @@
+-- Expressions with their types over the columns in scope.
+pub mod Leaves
