@@ -1,1 +1,2 @@
 pub mod TypeForms
+pub mod WellFormed

@@ -1,9 +1,8 @@
 -- Literals, casts and attributes with their types.
-use Rattle.std.specs.Prelude.{◌≤ℤ◌, ℕ, ℤ, ◌&&◌, int_le, Bool, true, false, if◌then◌else◌, List, slice_get, Option, Some, None, Ok, Err, codes}
+use Rattle.std.specs.Prelude.{ℕ, ℤ, Bool, true, false, if◌then◌else◌, List, slice_get, Option, Some, None, Ok, Err, codes}
 use Rattle.std.specs.Fmt.{signed_decimal}
 use Rattle.cn_types.specs.declared.value.DataType.{DataType}
 use Rattle.cn_types.specs.declared.value.Value.{Value}
-use Rattle.cn_types.specs.Fit.{first_day, last_day}
 use Rattle.expression_messages.specs.declared.data_type.TypeMessage.{TypeMessage}
 use Rattle.expression_messages.specs.declared.data_type.TypeMessage.TheOpen.{TypeMessage-F}
 use Rattle.expression_messages.specs.declared.data_type.TypeMessage.TheViews.{out-TypeMessage}
@@ -11,6 +10,7 @@ use Rattle.expression_messages.specs.declared.literal.Literal.{Literal}
 use Rattle.expression_messages.specs.declared.expression.CastTarget.{CastTarget}
 use Rattle.plan_model.specs.declared.expression.TypedExpr.{TypedExpr}
 use Rattle.plan_model.specs.declared.expression.TypedExpr.TheVariants as typed
+use Rattle.plan_model.specs.DateFunctions.{is_day}
 use Rattle.plan_model.specs.FunctionTypes.{can_cast}
 use Rattle.plan_model.specs.NodeTypes.{kind_of}
 use Rattle.resolve_names.specs.declared.error.ErrorName.TheVariants.{BadNumber, DatatypeMismatch, Unsupported}
@@ -55,9 +55,6 @@ typed_null false (Some kind) = Ok (value_of_kind Value.Null kind)
 typed_null false None = refused untyped
 
 -- a date from 0001-01-01 to 9999-12-31
-abbrev pub is_day : ℤ → Bool
-is_day days = int_le first_day days && int_le days last_day
-
 abbrev pub typed_date : ℤ → Checked (Option TypedExpr)
 typed_date days = if is_day days then Ok (value_of_kind (Value.Date days) DataType.Date) else refused (refusal BadNumber (signed_decimal days))
 

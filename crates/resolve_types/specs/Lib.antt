@@ -1,2 +1,3 @@
--- Expressions with their types over the columns in scope.
+-- Literals and casts with their types, and that typed expressions are well formed.
+pub mod Laws
 pub mod Leaves

@@ -1,5 +1,6 @@
 ghost use Rattle.std.specs.Prelude.{◌≡◌, ◌≢◌, IfOk, IfErr, Ok, Err};
 ghost use Rattle.std.specs.Fmt.{signed_decimal};
+ghost use Rattle.plan_model.specs.DateFunctions.{is_day as in_range};
 ghost use Rattle.resolve_names.specs.declared.error.ErrorName.TheVariants.{BadNumber};
 ghost use Rattle.resolve_names.specs.declared.error.ResolveStop.TheVariants.{Analysis, OutOfMemory as no_memory};
 ghost use Rattle.resolve_names.specs.Refusals.{refusal};
@@ -72,7 +73,7 @@ fn typed_date(alloc: Global, days: i32) -> Result<Option<TypedExpr>, ResolveStop
 }
 
 fn is_day(days: i32) -> bool
-    ensures { result ≡ leaves.is_day days }
+    ensures { result ≡ in_range days }
 {
     if days < FIRST_DAY {
         return false;
