@@ -1,6 +1,6 @@
 -- What typing makes is well formed.
 use Rattle.std.proofs.Common.{◌≡◌, ℕ, ℤ, Bool, List, [], ◌∷◌, map, true, false, cond, ◌&&◌, Option, Some, None, refl, sym, ap, subst, ◌∙◌}
-use Rattle.std.specs.Prelude.{Ok, Err, IfSome, filter_map}
+use Rattle.std.specs.Prelude.{Ok, Err, IfSome, filter_map, nat_eq, option_map, slice_get}
 use Rattle.std.specs.List.{AllByRecursion}
 use Rattle.cn_types.specs.declared.value.DataType.{DataType}
 use Rattle.cn_types.specs.declared.value.DataType.TheVariants as K
@@ -18,14 +18,17 @@ use Rattle.plan_model.specs.NodeTypes.{kind_of, kinds_of}
 use Rattle.plan_model.specs.WellFormed.{IsFormOver, IsOver}
 use Rattle.plan_model.specs.DateFunctions.{is_day}
 use Rattle.plan_model.proofs.CastFacts.{days_tested}
-use Rattle.plan_model.proofs.ExpressionFacts.{made-Call, made-Cast, made-Literal}
+use Rattle.plan_model.proofs.ExpressionFacts.{made-Call, made-Cast, made-Column, made-Literal}
+use Rattle.std.proofs.lemmas.Option.{slice_get-map}
+use Rattle.resolve_names.specs.declared.scope.ColumnOf.{ColumnOf}
+use Rattle.resolve_names.specs.Scopes.{attribute_at}
 use Rattle.resolve_names.specs.Checks.{Checked, ◌>>=◌, or_refused, refused}
 use Rattle.resolve_names.specs.Refusals.{Refusal}
 use Rattle.resolve_functions.specs.declared.asked.Asked.{Asked}
 use Rattle.resolve_functions.specs.declared.asked.Asked.TheVariants.{AnyKind, Number, Only, Same, When}
 use Rattle.resolve_functions.specs.Arguments.{asked_first, asked_later, call_asked, call_of, conditions, each_meets, filled, known, known_kinds, mismatch, plain_call, same_call, together, typed_call, values, when_call}
-use Rattle.resolve_types.specs.Laws.{CallsAreWellFormed, CastsAreWellFormed, IsTypingOver, LiteralsAreWellFormed}
-use Rattle.resolve_types.specs.Leaves.{bad_cast, cast_expr, cast_to_kind, kind_of_type, says_no_type, target_kind, typed_cast, typed_date, typed_literal, typed_null, value_of_kind}
+use Rattle.resolve_types.specs.Laws.{AttributesAreWellFormed, CallsAreWellFormed, CastsAreWellFormed, IsTypingOver, LiteralsAreWellFormed}
+use Rattle.resolve_types.specs.Leaves.{bad_cast, cast_expr, cast_to_kind, column_at, kind_of_type, says_no_type, target_kind, typed_attribute, typed_cast, typed_date, typed_literal, typed_null, value_of_kind}
 
 same_ok : {A : Type 0} (a b : A) → ◌≡◌ {A = Checked A} (Ok a) (Ok b) → a ≡ b
 same_ok a b e = cc
@@ -138,3 +141,18 @@ literals_are_well_formed columns (L.Long value) typing e = typing_over columns t
 literals_are_well_formed columns (L.String text) typing e = typing_over columns typing (N.Text text) K.Text tt e
 literals_are_well_formed columns (L.Date days) typing e = date_over columns days (is_day days) (days_tested days).0 typing _ e
 literals_are_well_formed columns L.Absent typing e = absurd (let h : ⊥ = cc in h)
+
+column_over : (columns : List (ColumnOf ℕ)) (place : ℕ) (why : Refusal) (found : Option (ColumnOf ℕ)) → slice_get columns place ≡ found → (expr : TypedExpr) →
+    ◌≡◌ {A = Checked TypedExpr} (or_refused why found >>= λ column. Ok (V.Column place column.kind)) (Ok expr) → IsOver (map (λ column. column.kind) columns) expr
+column_over columns place why None is expr e = absurd (let h : ⊥ = cc in h)
+column_over columns place why (Some column) is expr e =
+    let kinds : List DataType = map (λ column. column.kind) columns in
+    let here : slice_get kinds place ≡ Some column.kind = slice_get-map (λ column. column.kind) columns place ∙ ap (option_map (λ column. column.kind)) is in
+    subst (IsOver kinds) (same_ok (V.Column place column.kind) expr e) (made-Column (IsFormOver kinds) place column.kind here)
+
+pub attributes_are_well_formed : AttributesAreWellFormed
+unfolding typed_attribute
+attributes_are_well_formed exact columns relations attribute expr e =
+    let found = bind_ok (attribute_at nat_eq exact columns relations attribute.unparsed_identifier attribute.plan_id)
+    (λ place. column_at attribute.unparsed_identifier columns place) expr e in
+    column_over columns found.0 _ (slice_get columns found.0) refl expr found.1

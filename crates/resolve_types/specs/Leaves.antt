@@ -8,12 +8,16 @@ use Rattle.expression_messages.specs.declared.data_type.TypeMessage.TheOpen.{Typ
 use Rattle.expression_messages.specs.declared.data_type.TypeMessage.TheViews.{out-TypeMessage}
 use Rattle.expression_messages.specs.declared.literal.Literal.{Literal}
 use Rattle.expression_messages.specs.declared.expression.CastTarget.{CastTarget}
+use Rattle.expression_messages.specs.declared.expression.UnresolvedAttribute.{UnresolvedAttribute}
 use Rattle.plan_model.specs.declared.expression.TypedExpr.{TypedExpr}
 use Rattle.plan_model.specs.declared.expression.TypedExpr.TheVariants as typed
 use Rattle.plan_model.specs.DateFunctions.{is_day}
 use Rattle.plan_model.specs.FunctionTypes.{can_cast}
 use Rattle.plan_model.specs.NodeTypes.{kind_of}
 use Rattle.resolve_names.specs.declared.error.ErrorName.TheVariants.{BadNumber, DatatypeMismatch, Unsupported}
+use Rattle.resolve_names.specs.declared.scope.ColumnOf.{ColumnOf}
+use Rattle.resolve_names.specs.declared.scope.Tagged.{Tagged}
+use Rattle.resolve_names.specs.Scopes.{attribute_at, unresolved}
 use Rattle.resolve_names.specs.Checks.{Checked, ◌>>=◌, or_refused, refused}
 use Rattle.resolve_names.specs.Refusals.{Refusal, refusal}
 use Rattle.resolve_functions.specs.Arguments.{untyped}
@@ -91,3 +95,14 @@ cast_to_kind (Some expr) kind = cast_expr expr kind
 
 unfoldable pub typed_cast : Option TypedExpr → CastTarget → Checked TypedExpr
 typed_cast child target = or_refused bad_cast (target_kind target) >>= λ kind. cast_to_kind child kind
+
+-- ---- attributes
+
+-- the column at a place, with its type
+abbrev pub column_at : {I : Type 0} → List ℕ → List (ColumnOf I) → ℕ → Checked TypedExpr
+column_at identifier columns place = or_refused (unresolved identifier) (slice_get columns place) >>= λ column. Ok (typed.Column place column.kind)
+
+-- the column that an attribute names, with its type
+unfoldable pub typed_attribute : {I : Type 0} → (I → I → Bool) → Bool → List (ColumnOf I) → List (Tagged I) → UnresolvedAttribute → Checked TypedExpr
+typed_attribute same exact columns relations attribute =
+    attribute_at same exact columns relations attribute.unparsed_identifier attribute.plan_id >>= λ place. column_at attribute.unparsed_identifier columns place
