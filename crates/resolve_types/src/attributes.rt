@@ -5,9 +5,7 @@ ghost use Rattle.resolve_types.specs.Leaves as leaves;
 
 use expression_messages::UnresolvedAttribute;
 use plan_model::TypedExpr;
-use resolve_names::{
-    ErrorName, ResolveStop, ScopeColumn, Tagged, analysis_stop, attribute_place,
-};
+use resolve_names::{ErrorName, ResolveStop, ScopeColumn, Tagged, analysis_stop, attribute_place};
 use std::alloc::Global;
 
 /// The column that an attribute names, with its type. Its errors are those of `attribute_place`. A place from 2^32 on is answered as want

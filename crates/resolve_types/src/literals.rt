@@ -15,6 +15,7 @@ use std::alloc::Global;
 
 /// 0001-01-01 and 9999-12-31 (ISO 8601), in days from 1970-01-01.
 const FIRST_DAY: i32 = -719162;
+
 const LAST_DAY: i32 = 2932896;
 
 /// A literal with its type; none for a null that has no type yet. Errors: DatatypeMismatch `null` for a null of a type that no column
