@@ -1,5 +1,5 @@
 -- The common type of a list, from its end.
-use Rattle.std.proofs.Common.{◌≡◌, ℕ, suc, ◌-◌, ◌<◌, ◌≤◌, List, [], ◌∷◌, length, get_or, drop, refl, sym, ap, ◌∙◌, arith, drop-cons, length-drop}
+use Rattle.std.proofs.Common.{◌≡◌, ℕ, suc, ◌-◌, ◌<◌, List, [], ◌∷◌, length, get_or, drop, refl, ap, ◌∙◌, arith, drop-cons, length-drop}
 use Rattle.std.specs.Prelude.{option_and_then}
 use Rattle.cn_types.specs.declared.value.DataType.{DataType}
 use Rattle.plan_model.specs.FunctionTypes.{common, common_of}

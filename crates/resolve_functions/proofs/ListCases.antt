@@ -1,5 +1,5 @@
 -- Lists of one item, of two and of more: what functions that take so many answer.
-use Rattle.std.proofs.Common.{◌≡◌, ◌≢◌, ℕ, ◌+◌, ◌<◌, ◌≤◌, Bool, List, [], ◌∷◌, true, false, cond, Option, Some, None, length, get_or, refl, sym, ap, ◌∙◌, arith}
+use Rattle.std.proofs.Common.{◌≡◌, ◌≢◌, ◌<◌, ◌≤◌, Bool, List, [], ◌∷◌, true, false, cond, Option, Some, None, length, get_or, refl, ap, arith}
 use Rattle.std.specs.Prelude.{option_and_then, ◌&&◌, if◌then◌else◌}
 use Rattle.std.specs.List.{list_all}
 use Rattle.cn_types.specs.declared.value.DataType.{DataType}

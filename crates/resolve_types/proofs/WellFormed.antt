@@ -1,15 +1,13 @@
 -- What typing makes is well formed.
-use Rattle.std.proofs.Common.{◌≡◌, ℕ, ℤ, Bool, List, [], ◌∷◌, map, true, false, cond, ◌&&◌, Option, Some, None, refl, sym, ap, subst, ◌∙◌}
-use Rattle.std.specs.Prelude.{Ok, Err, IfSome, filter_map, nat_eq, option_map, slice_get}
+use Rattle.std.proofs.Common.{◌≡◌, ℕ, ℤ, Bool, List, [], ◌∷◌, map, true, false, cond, Option, Some, None, refl, ap, subst, ◌∙◌}
+use Rattle.std.specs.Prelude.{Ok, Err, nat_eq, option_map, slice_get}
 use Rattle.std.specs.List.{AllByRecursion}
 use Rattle.cn_types.specs.declared.value.DataType.{DataType}
 use Rattle.cn_types.specs.declared.value.DataType.TheVariants as K
 use Rattle.cn_types.specs.declared.value.Value.{Value}
 use Rattle.cn_types.specs.declared.value.Value.TheVariants as N
 use Rattle.cn_types.specs.Fit.{HasType, IsDay}
-use Rattle.expression_messages.specs.declared.literal.Literal.{Literal}
 use Rattle.expression_messages.specs.declared.literal.Literal.TheVariants as L
-use Rattle.expression_messages.specs.declared.expression.CastTarget.{CastTarget}
 use Rattle.plan_model.specs.declared.expression.TypedExpr.{TypedExpr}
 use Rattle.plan_model.specs.declared.expression.TypedExpr.TheVariants as V
 use Rattle.plan_model.specs.declared.function.Function.{Function}
@@ -28,7 +26,7 @@ use Rattle.resolve_functions.specs.declared.asked.Asked.{Asked}
 use Rattle.resolve_functions.specs.declared.asked.Asked.TheVariants.{AnyKind, Number, Only, Same, When}
 use Rattle.resolve_functions.specs.Arguments.{asked_first, asked_later, call_asked, call_of, conditions, each_meets, filled, known, known_kinds, mismatch, plain_call, same_call, together, typed_call, values, when_call}
 use Rattle.resolve_types.specs.Laws.{AttributesAreWellFormed, CallsAreWellFormed, CastsAreWellFormed, IsTypingOver, LiteralsAreWellFormed}
-use Rattle.resolve_types.specs.Leaves.{bad_cast, cast_expr, cast_to_kind, column_at, kind_of_type, says_no_type, target_kind, typed_attribute, typed_cast, typed_date, typed_literal, typed_null, value_of_kind}
+use Rattle.resolve_types.specs.Leaves.{bad_cast, cast_to_kind, column_at, kind_of_type, says_no_type, target_kind, typed_attribute, typed_cast, typed_null, value_of_kind}
 
 same_ok : {A : Type 0} (a b : A) → ◌≡◌ {A = Checked A} (Ok a) (Ok b) → a ≡ b
 same_ok a b e = cc

@@ -1,6 +1,5 @@
 -- What is checked of a call before its arguments, and an aggregate call with its type.
-use Rattle.std.specs.Prelude.{ℕ, ◌&&◌, ◌||◌, not, Bool, true, false, if◌then◌else◌, List, Option, Some, None, Ok, Err, codes}
-use Rattle.std.specs.Str.{str_to_ascii_lowercase}
+use Rattle.std.specs.Prelude.{ℕ, ◌&&◌, not, Bool, true, false, List, Option, Some, None, Ok, codes}
 use Rattle.cn_types.specs.declared.value.DataType.{DataType}
 use Rattle.plan_model.specs.declared.expression.TypedExpr.{TypedExpr}
 use Rattle.plan_model.specs.declared.function.Function.{Function}

@@ -1,5 +1,5 @@
 -- What typing makes is well formed over the columns: what evaluation asks for.
-use Rattle.std.specs.Prelude.{◌≡◌, ℕ, nat_eq, Bool, List, map, Option, Some, IfSome, Ok}
+use Rattle.std.specs.Prelude.{◌≡◌, ℕ, nat_eq, Bool, List, map, Option, IfSome, Ok}
 use Rattle.std.specs.List.{AllByRecursion}
 use Rattle.cn_types.specs.declared.value.DataType.{DataType}
 use Rattle.expression_messages.specs.declared.literal.Literal.{Literal}

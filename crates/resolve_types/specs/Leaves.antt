@@ -1,5 +1,5 @@
 -- Literals, casts and attributes with their types.
-use Rattle.std.specs.Prelude.{ℕ, ℤ, Bool, true, false, if◌then◌else◌, List, slice_get, Option, Some, None, Ok, Err, codes}
+use Rattle.std.specs.Prelude.{ℕ, ℤ, Bool, true, false, if◌then◌else◌, List, slice_get, Option, Some, None, Ok, codes}
 use Rattle.std.specs.Fmt.{signed_decimal}
 use Rattle.cn_types.specs.declared.value.DataType.{DataType}
 use Rattle.cn_types.specs.declared.value.Value.{Value}
