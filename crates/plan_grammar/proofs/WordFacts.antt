@@ -1,11 +1,11 @@
 -- Two words of the grammar are spelled alike only where they are one.
-use Rattle.std.proofs.Common.{◌≡◌, Bool, true, false, refl, sym, ap, ◌∙◌}
-use Rattle.std.specs.Prelude.{Option, Some, bytes_eq, Decides}
+use Rattle.std.proofs.Common.{◌≡◌, Bool, refl, sym, ap, ◌∙◌}
+use Rattle.std.specs.Prelude.{bytes_eq, Decides}
 use Rattle.std.specs.Bool.{one_answer}
 use Rattle.std.proofs.lemmas.Option.{same_Some}
 use Rattle.std.proofs.lemmas.Slice.Eq.{bytes_eq-Decides}
 use Rattle.plan_tokens.specs.declared.keyword.Keyword.{Keyword}
-use Rattle.plan_tokens.specs.Words.{spelled_word, keyword_of}
+use Rattle.plan_tokens.specs.Words.{spelled_word}
 use Rattle.plan_tokens.proofs.WordFacts.{keyword_found}
 use Rattle.plan_grammar.specs.Tests.{is_same_word}
 

@@ -1,6 +1,6 @@
 -- The grammar of pipelines, a line a production. Each symbol has at most one production that may stand before a token: `takes` takes the
 -- token for a use, and symbols follow; `goes` leaves it to the symbols that follow. `does` is no token, but something that is done.
-use Rattle.std.specs.Prelude.{Bool, if◌then◌else◌, List, [], ◌∷◌, Option, Some, None}
+use Rattle.std.specs.Prelude.{if◌then◌else◌, List, [], ◌∷◌, Option, Some, None}
 use Rattle.cn_types.specs.declared.value.DataType.{DataType}
 use Rattle.cn_types.specs.declared.value.DataType.TheVariants as kind
 use Rattle.plan_tokens.specs.declared.keyword.Keyword.TheVariants as word
@@ -10,6 +10,7 @@ use Rattle.plan_grammar.specs.declared.symbol.Action.{Action}
 use Rattle.plan_grammar.specs.declared.symbol.Action.TheVariants as action
 use Rattle.plan_grammar.specs.declared.symbol.Use.{Use}
 use Rattle.plan_grammar.specs.declared.symbol.Use.TheVariants as uses
+use Rattle.plan_grammar.specs.declared.symbol.Cell.TheVariants as cells
 use Rattle.plan_grammar.specs.declared.symbol.Test.{Test}
 use Rattle.plan_grammar.specs.declared.symbol.Test.TheVariants as test
 use Rattle.plan_grammar.specs.declared.symbol.Symbol.{Symbol}
@@ -328,11 +329,11 @@ unit_rule units.ArgumentList token =
     goes (expression expressions.Expr ∷ expression expressions.Exprs ∷ []))
 -- type
 unit_rule units.Kind token =
-    if passes (test.Word word.Integer) token then takes uses.Nothing (does action.IntegerKind ∷ []) else (
-    if passes (test.Word word.Long) token then takes uses.Nothing (does action.LongKind ∷ []) else (
-    if passes (test.Word word.String) token then takes uses.Nothing (does action.TextKind ∷ []) else (
-    if passes (test.Word word.Boolean) token then takes uses.Nothing (does action.BooleanKind ∷ []) else (
-    if passes (test.Word word.Date) token then takes uses.Nothing (does action.DateKind ∷ []) else (
+    if passes (test.Word word.Integer) token then takes uses.Nothing (does (action.Kind kind.Integer) ∷ []) else (
+    if passes (test.Word word.Long) token then takes uses.Nothing (does (action.Kind kind.Long) ∷ []) else (
+    if passes (test.Word word.String) token then takes uses.Nothing (does (action.Kind kind.Text) ∷ []) else (
+    if passes (test.Word word.Boolean) token then takes uses.Nothing (does (action.Kind kind.Boolean) ∷ []) else (
+    if passes (test.Word word.Date) token then takes uses.Nothing (does (action.Kind kind.Date) ∷ []) else (
     None)))))
 
 -- ---- cells, by the type of their column
@@ -341,28 +342,28 @@ abbrev pub minus_rule : Token → Option Production
 minus_rule token = if passes test.Minus token then takes uses.Nothing (values valuess.MinusCell ∷ []) else None
 
 abbrev pub kind_rule : DataType → Token → Option Production
-kind_rule kind.Integer token = if passes test.Integer token then takes uses.IntegerCell (values valuess.CellEnd ∷ []) else minus_rule token
-kind_rule kind.Long token = if passes test.Long token then takes uses.LongCell (values valuess.CellEnd ∷ []) else minus_rule token
-kind_rule kind.Text token = if passes test.Quotation token then takes uses.TextCell (values valuess.CellEnd ∷ []) else None
+kind_rule kind.Integer token = if passes test.Integer token then takes (uses.Cell cells.Integer) (values valuess.CellEnd ∷ []) else minus_rule token
+kind_rule kind.Long token = if passes test.Long token then takes (uses.Cell cells.Long) (values valuess.CellEnd ∷ []) else minus_rule token
+kind_rule kind.Text token = if passes test.Quotation token then takes (uses.Cell cells.Text) (values valuess.CellEnd ∷ []) else None
 kind_rule kind.Boolean token =
-    if passes (test.Word word.True) token then takes uses.TrueCell (values valuess.CellEnd ∷ [])
-    else (if passes (test.Word word.False) token then takes uses.FalseCell (values valuess.CellEnd ∷ []) else None)
+    if passes (test.Word word.True) token then takes (uses.Cell cells.True) (values valuess.CellEnd ∷ [])
+    else (if passes (test.Word word.False) token then takes (uses.Cell cells.False) (values valuess.CellEnd ∷ []) else None)
 kind_rule kind.Date token = if passes (test.Word word.Date) token then takes uses.Nothing (values valuess.DateCell ∷ []) else None
 
 -- "null" is a cell of every type
 abbrev pub cell_rule : DataType → Token → Option Production
-cell_rule kind token = if passes (test.Word word.Null) token then takes uses.NullCell (values valuess.CellEnd ∷ []) else kind_rule kind token
+cell_rule kind token = if passes (test.Word word.Null) token then takes (uses.Cell cells.Null) (values valuess.CellEnd ∷ []) else kind_rule kind token
 
 abbrev pub minus_cell_rule : DataType → Token → Option Production
-minus_cell_rule kind.Integer token = if passes test.NegativeInteger token then takes uses.NegativeCell (values valuess.CellEnd ∷ []) else None
-minus_cell_rule kind.Long token = if passes test.NegativeLong token then takes uses.NegativeCell (values valuess.CellEnd ∷ []) else None
+minus_cell_rule kind.Integer token = if passes test.NegativeInteger token then takes (uses.Cell cells.Negative) (values valuess.CellEnd ∷ []) else None
+minus_cell_rule kind.Long token = if passes test.NegativeLong token then takes (uses.Cell cells.Negative) (values valuess.CellEnd ∷ []) else None
 minus_cell_rule other token = None
 
 abbrev pub next_cell_rule : Token → Option Production
 next_cell_rule token = if passes (test.Sign sign.Comma) token then takes uses.Nothing (values valuess.Cell ∷ []) else None
 
 abbrev pub row_end_rule : Token → Option Production
-row_end_rule token = if passes (test.Sign sign.Close) token then takes uses.Nothing (does action.Row ∷ values valuess.Rows ∷ []) else None
+row_end_rule token = if passes (test.Sign sign.Close) token then takes uses.Nothing (symbol.Row ∷ values valuess.Rows ∷ []) else None
 
 -- a rule of the column whose cell comes next, where there is one
 abbrev pub of_wanted : Option DataType → (DataType → Option Production) → Option Production
@@ -383,11 +384,11 @@ values_rule wanted valuess.Columns token =
     goes ([]))
 -- type
 values_rule wanted valuess.ColumnKind token =
-    if passes (test.Word word.Integer) token then takes uses.Nothing (does action.IntegerColumn ∷ []) else (
-    if passes (test.Word word.Long) token then takes uses.Nothing (does action.LongColumn ∷ []) else (
-    if passes (test.Word word.String) token then takes uses.Nothing (does action.TextColumn ∷ []) else (
-    if passes (test.Word word.Boolean) token then takes uses.Nothing (does action.BooleanColumn ∷ []) else (
-    if passes (test.Word word.Date) token then takes uses.Nothing (does action.DateColumn ∷ []) else (
+    if passes (test.Word word.Integer) token then takes uses.Nothing (symbol.Column kind.Integer ∷ []) else (
+    if passes (test.Word word.Long) token then takes uses.Nothing (symbol.Column kind.Long ∷ []) else (
+    if passes (test.Word word.String) token then takes uses.Nothing (symbol.Column kind.Text ∷ []) else (
+    if passes (test.Word word.Boolean) token then takes uses.Nothing (symbol.Column kind.Boolean ∷ []) else (
+    if passes (test.Word word.Date) token then takes uses.Nothing (symbol.Column kind.Date ∷ []) else (
     None)))))
 -- { "(" cell { "," cell } ")" }
 values_rule wanted valuess.Rows token =
@@ -398,7 +399,7 @@ values_rule wanted valuess.Cell token = of_wanted wanted (λ kind. cell_rule kin
 -- the digits of a cell behind `-`
 values_rule wanted valuess.MinusCell token = of_wanted wanted (λ kind. minus_cell_rule kind token)
 -- the text of a cell behind "date"
-values_rule wanted valuess.DateCell token = if passes test.DateText token then takes uses.DateCell (values valuess.CellEnd ∷ []) else None
+values_rule wanted valuess.DateCell token = if passes test.DateText token then takes (uses.Cell cells.Date) (values valuess.CellEnd ∷ []) else None
 -- "," cell, or ")" { row }
 values_rule wanted valuess.CellEnd token = cell_end_rule wanted token
 
@@ -411,3 +412,5 @@ rule wanted (symbol.Unit one) token = unit_rule one token
 rule wanted (symbol.Values one) token = values_rule wanted one token
 rule wanted (symbol.Need test) token = if passes test token then takes uses.Nothing [] else None
 rule wanted (symbol.Act action) token = None
+rule wanted (symbol.Column kind) token = None
+rule wanted symbol.Row token = None

@@ -1,12 +1,16 @@
-//! The grammar of pipeline texts: its symbols and their productions.
+//! The grammar of pipeline texts: its symbols and productions, and what a text's tokens are derived by.
 #![tactic(auto)]
 
+mod columns;
+mod parsing;
+mod reader;
 mod rules;
+mod stack;
 mod symbol;
 mod tests_of_tokens;
 
-pub use rules::{Production, rule};
+pub use parsing::{GrammarFault, derivation};
 pub use symbol::{
-    Action, Columns, Deed, ExpressionSymbol, PipelineSymbol, StepSymbol, Symbol, Test, UnitSymbol, Use,
-    ValuesSymbol,
+    Action, Cell, Columns, Deed, ExpressionSymbol, PipelineSymbol, StepSymbol, Symbol, Test,
+    UnitSymbol, Use, ValuesSymbol,
 };

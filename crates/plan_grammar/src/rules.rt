@@ -2,7 +2,8 @@ ghost use Rattle.std.specs.Prelude.{◌≡◌, option_map};
 ghost use Rattle.plan_grammar.specs.Grammar as grammar;
 
 use crate::symbol::{
-    Action, ExpressionSymbol, PipelineSymbol, StepSymbol, Symbol, Test, UnitSymbol, Use, ValuesSymbol,
+    Action, Cell, ExpressionSymbol, PipelineSymbol, StepSymbol, Symbol, Test, UnitSymbol, Use,
+    ValuesSymbol,
 };
 use crate::tests_of_tokens::passes;
 use cn_types::DataType;
@@ -17,37 +18,90 @@ fn pipeline_rule(symbol: PipelineSymbol, token: &Token) -> Option<Production>
     match symbol {
         // source { "|" step } [ "|" finish ]
         PipelineSymbol::Whole => {
-            Some((None, &[Symbol::Pipeline(PipelineSymbol::Source), Symbol::Pipeline(PipelineSymbol::Finish)]))
+            Some((
+                None,
+                &[
+                    Symbol::Pipeline(PipelineSymbol::Source),
+                    Symbol::Pipeline(PipelineSymbol::Finish),
+                ],
+            ))
         }
         // "range" int int int | "table" name | "values" "(" column { "," column } ")" { row }
         PipelineSymbol::Source => {
             if passes(Test::Word(Keyword::Range), token) {
-                return Some((Some(Use::Nothing), &[Symbol::Pipeline(PipelineSymbol::Long), Symbol::Pipeline(PipelineSymbol::Long), Symbol::Pipeline(PipelineSymbol::Long), Symbol::Act(Action::Range)]));
+                return Some((
+                    Some(Use::Nothing),
+                    &[
+                        Symbol::Pipeline(PipelineSymbol::Long),
+                        Symbol::Pipeline(PipelineSymbol::Long),
+                        Symbol::Pipeline(PipelineSymbol::Long),
+                        Symbol::Act(Action::Range),
+                    ],
+                ));
             }
             if passes(Test::Word(Keyword::Table), token) {
-                return Some((Some(Use::Nothing), &[Symbol::Pipeline(PipelineSymbol::Name), Symbol::Act(Action::Read)]));
+                return Some((
+                    Some(Use::Nothing),
+                    &[
+                        Symbol::Pipeline(PipelineSymbol::Name),
+                        Symbol::Act(Action::Read),
+                    ],
+                ));
             }
             if passes(Test::Word(Keyword::Values), token) {
-                return Some((Some(Use::NewColumns), &[Symbol::Need(Test::Sign(Sign::Open)), Symbol::Values(ValuesSymbol::Column), Symbol::Values(ValuesSymbol::Columns), Symbol::Need(Test::Sign(Sign::Close)), Symbol::Values(ValuesSymbol::Rows), Symbol::Act(Action::Values)]));
+                return Some((
+                    Some(Use::NewColumns),
+                    &[
+                        Symbol::Need(Test::Sign(Sign::Open)),
+                        Symbol::Values(ValuesSymbol::Column),
+                        Symbol::Values(ValuesSymbol::Columns),
+                        Symbol::Need(Test::Sign(Sign::Close)),
+                        Symbol::Values(ValuesSymbol::Rows),
+                        Symbol::Act(Action::Values),
+                    ],
+                ));
             }
             None
         }
         // { "|" step } [ "|" ("write" | "insert") name [ mode ] ]
         PipelineSymbol::Finish => {
             if passes(Test::Sign(Sign::Bar), token) {
-                return Some((Some(Use::Nothing), &[Symbol::Pipeline(PipelineSymbol::StepOrWrite)]));
+                return Some((
+                    Some(Use::Nothing),
+                    &[Symbol::Pipeline(PipelineSymbol::StepOrWrite)],
+                ));
             }
             Some((None, &[]))
         }
         // ("write" | "insert") name [ mode ] | step ..
         PipelineSymbol::StepOrWrite => {
             if passes(Test::Word(Keyword::Write), token) {
-                return Some((Some(Use::Nothing), &[Symbol::Pipeline(PipelineSymbol::Name), Symbol::Pipeline(PipelineSymbol::Mode), Symbol::Act(Action::Write)]));
+                return Some((
+                    Some(Use::Nothing),
+                    &[
+                        Symbol::Pipeline(PipelineSymbol::Name),
+                        Symbol::Pipeline(PipelineSymbol::Mode),
+                        Symbol::Act(Action::Write),
+                    ],
+                ));
             }
             if passes(Test::Word(Keyword::Insert), token) {
-                return Some((Some(Use::Nothing), &[Symbol::Pipeline(PipelineSymbol::Name), Symbol::Pipeline(PipelineSymbol::Mode), Symbol::Act(Action::Insert)]));
+                return Some((
+                    Some(Use::Nothing),
+                    &[
+                        Symbol::Pipeline(PipelineSymbol::Name),
+                        Symbol::Pipeline(PipelineSymbol::Mode),
+                        Symbol::Act(Action::Insert),
+                    ],
+                ));
             }
-            Some((None, &[Symbol::Step(StepSymbol::Step), Symbol::Pipeline(PipelineSymbol::Finish)]))
+            Some((
+                None,
+                &[
+                    Symbol::Step(StepSymbol::Step),
+                    Symbol::Pipeline(PipelineSymbol::Finish),
+                ],
+            ))
         }
         // [ "append" | "overwrite" | "error" | "ignore" ]
         PipelineSymbol::Mode => {
@@ -67,12 +121,26 @@ fn pipeline_rule(symbol: PipelineSymbol, token: &Token) -> Option<Production>
         }
         // "(" source { "|" step } ")"
         PipelineSymbol::Nested => {
-            Some((None, &[Symbol::Need(Test::Sign(Sign::Open)), Symbol::Pipeline(PipelineSymbol::Source), Symbol::Pipeline(PipelineSymbol::Steps), Symbol::Need(Test::Sign(Sign::Close))]))
+            Some((
+                None,
+                &[
+                    Symbol::Need(Test::Sign(Sign::Open)),
+                    Symbol::Pipeline(PipelineSymbol::Source),
+                    Symbol::Pipeline(PipelineSymbol::Steps),
+                    Symbol::Need(Test::Sign(Sign::Close)),
+                ],
+            ))
         }
         // { "|" step }
         PipelineSymbol::Steps => {
             if passes(Test::Sign(Sign::Bar), token) {
-                return Some((Some(Use::Nothing), &[Symbol::Step(StepSymbol::Step), Symbol::Pipeline(PipelineSymbol::Steps)]));
+                return Some((
+                    Some(Use::Nothing),
+                    &[
+                        Symbol::Step(StepSymbol::Step),
+                        Symbol::Pipeline(PipelineSymbol::Steps),
+                    ],
+                ));
             }
             Some((None, &[]))
         }
@@ -86,7 +154,13 @@ fn pipeline_rule(symbol: PipelineSymbol, token: &Token) -> Option<Production>
         // { "," name }
         PipelineSymbol::Names => {
             if passes(Test::Sign(Sign::Comma), token) {
-                return Some((Some(Use::Nothing), &[Symbol::Pipeline(PipelineSymbol::Name), Symbol::Pipeline(PipelineSymbol::Names)]));
+                return Some((
+                    Some(Use::Nothing),
+                    &[
+                        Symbol::Pipeline(PipelineSymbol::Name),
+                        Symbol::Pipeline(PipelineSymbol::Names),
+                    ],
+                ));
             }
             Some((None, &[]))
         }
@@ -96,7 +170,10 @@ fn pipeline_rule(symbol: PipelineSymbol, token: &Token) -> Option<Production>
                 return Some((Some(Use::Integer), &[]));
             }
             if passes(Test::MinusBeforeDigits, token) {
-                return Some((Some(Use::Nothing), &[Symbol::Pipeline(PipelineSymbol::NegativeInteger)]));
+                return Some((
+                    Some(Use::Nothing),
+                    &[Symbol::Pipeline(PipelineSymbol::NegativeInteger)],
+                ));
             }
             None
         }
@@ -113,7 +190,10 @@ fn pipeline_rule(symbol: PipelineSymbol, token: &Token) -> Option<Production>
                 return Some((Some(Use::Long), &[]));
             }
             if passes(Test::MinusBeforeDigits, token) {
-                return Some((Some(Use::Nothing), &[Symbol::Pipeline(PipelineSymbol::NegativeLong)]));
+                return Some((
+                    Some(Use::Nothing),
+                    &[Symbol::Pipeline(PipelineSymbol::NegativeLong)],
+                ));
             }
             None
         }
@@ -134,88 +214,245 @@ fn step_rule(symbol: StepSymbol, token: &Token) -> Option<Production>
         // the steps
         StepSymbol::Step => {
             if passes(Test::Word(Keyword::Where), token) {
-                return Some((Some(Use::Nothing), &[Symbol::Expression(ExpressionSymbol::Expr), Symbol::Act(Action::Filter)]));
+                return Some((
+                    Some(Use::Nothing),
+                    &[
+                        Symbol::Expression(ExpressionSymbol::Expr),
+                        Symbol::Act(Action::Filter),
+                    ],
+                ));
             }
             if passes(Test::Word(Keyword::Select), token) {
-                return Some((Some(Use::Nothing), &[Symbol::Expression(ExpressionSymbol::Item), Symbol::Expression(ExpressionSymbol::Items), Symbol::Act(Action::Project)]));
+                return Some((
+                    Some(Use::Nothing),
+                    &[
+                        Symbol::Expression(ExpressionSymbol::Item),
+                        Symbol::Expression(ExpressionSymbol::Items),
+                        Symbol::Act(Action::Project),
+                    ],
+                ));
             }
             if passes(Test::Word(Keyword::With), token) {
-                return Some((Some(Use::Nothing), &[Symbol::Step(StepSymbol::Assignment), Symbol::Step(StepSymbol::Assignments), Symbol::Act(Action::WithColumns)]));
+                return Some((
+                    Some(Use::Nothing),
+                    &[
+                        Symbol::Step(StepSymbol::Assignment),
+                        Symbol::Step(StepSymbol::Assignments),
+                        Symbol::Act(Action::WithColumns),
+                    ],
+                ));
             }
             if passes(Test::Word(Keyword::Drop), token) {
-                return Some((Some(Use::Nothing), &[Symbol::Pipeline(PipelineSymbol::Name), Symbol::Pipeline(PipelineSymbol::Names), Symbol::Act(Action::Drop)]));
+                return Some((
+                    Some(Use::Nothing),
+                    &[
+                        Symbol::Pipeline(PipelineSymbol::Name),
+                        Symbol::Pipeline(PipelineSymbol::Names),
+                        Symbol::Act(Action::Drop),
+                    ],
+                ));
             }
             if passes(Test::Word(Keyword::Rename), token) {
-                return Some((Some(Use::Nothing), &[Symbol::Step(StepSymbol::Renaming), Symbol::Step(StepSymbol::Renamings), Symbol::Act(Action::Rename)]));
+                return Some((
+                    Some(Use::Nothing),
+                    &[
+                        Symbol::Step(StepSymbol::Renaming),
+                        Symbol::Step(StepSymbol::Renamings),
+                        Symbol::Act(Action::Rename),
+                    ],
+                ));
             }
             if passes(Test::Word(Keyword::Names), token) {
-                return Some((Some(Use::Nothing), &[Symbol::Pipeline(PipelineSymbol::Name), Symbol::Pipeline(PipelineSymbol::Names), Symbol::Act(Action::ToDf)]));
+                return Some((
+                    Some(Use::Nothing),
+                    &[
+                        Symbol::Pipeline(PipelineSymbol::Name),
+                        Symbol::Pipeline(PipelineSymbol::Names),
+                        Symbol::Act(Action::ToDf),
+                    ],
+                ));
             }
             if passes(Test::Word(Keyword::Alias), token) {
-                return Some((Some(Use::Nothing), &[Symbol::Pipeline(PipelineSymbol::Name), Symbol::Act(Action::SubqueryAlias)]));
+                return Some((
+                    Some(Use::Nothing),
+                    &[
+                        Symbol::Pipeline(PipelineSymbol::Name),
+                        Symbol::Act(Action::SubqueryAlias),
+                    ],
+                ));
             }
             if passes(Test::Word(Keyword::Sort), token) {
-                return Some((Some(Use::Nothing), &[Symbol::Step(StepSymbol::Key), Symbol::Step(StepSymbol::Keys), Symbol::Act(Action::Sort)]));
+                return Some((
+                    Some(Use::Nothing),
+                    &[
+                        Symbol::Step(StepSymbol::Key),
+                        Symbol::Step(StepSymbol::Keys),
+                        Symbol::Act(Action::Sort),
+                    ],
+                ));
             }
             if passes(Test::Word(Keyword::Limit), token) {
-                return Some((Some(Use::Nothing), &[Symbol::Pipeline(PipelineSymbol::Integer), Symbol::Act(Action::Limit)]));
+                return Some((
+                    Some(Use::Nothing),
+                    &[
+                        Symbol::Pipeline(PipelineSymbol::Integer),
+                        Symbol::Act(Action::Limit),
+                    ],
+                ));
             }
             if passes(Test::Word(Keyword::Offset), token) {
-                return Some((Some(Use::Nothing), &[Symbol::Pipeline(PipelineSymbol::Integer), Symbol::Act(Action::Offset)]));
+                return Some((
+                    Some(Use::Nothing),
+                    &[
+                        Symbol::Pipeline(PipelineSymbol::Integer),
+                        Symbol::Act(Action::Offset),
+                    ],
+                ));
             }
             if passes(Test::Word(Keyword::Distinct), token) {
-                return Some((Some(Use::Nothing), &[Symbol::Step(StepSymbol::DistinctNames)]));
+                return Some((
+                    Some(Use::Nothing),
+                    &[Symbol::Step(StepSymbol::DistinctNames)],
+                ));
             }
             if passes(Test::Word(Keyword::Group), token) {
-                return Some((Some(Use::Nothing), &[Symbol::Step(StepSymbol::GroupKeys), Symbol::Need(Test::Word(Keyword::Agg)), Symbol::Act(Action::GroupKeys), Symbol::Expression(ExpressionSymbol::Item), Symbol::Expression(ExpressionSymbol::Items), Symbol::Act(Action::Aggregate)]));
+                return Some((
+                    Some(Use::Nothing),
+                    &[
+                        Symbol::Step(StepSymbol::GroupKeys),
+                        Symbol::Need(Test::Word(Keyword::Agg)),
+                        Symbol::Act(Action::GroupKeys),
+                        Symbol::Expression(ExpressionSymbol::Item),
+                        Symbol::Expression(ExpressionSymbol::Items),
+                        Symbol::Act(Action::Aggregate),
+                    ],
+                ));
             }
             if passes(Test::Word(Keyword::Join), token) {
-                return Some((Some(Use::Nothing), &[Symbol::Step(StepSymbol::JoinKind), Symbol::Pipeline(PipelineSymbol::Nested), Symbol::Step(StepSymbol::JoinEnd)]));
+                return Some((
+                    Some(Use::Nothing),
+                    &[
+                        Symbol::Step(StepSymbol::JoinKind),
+                        Symbol::Pipeline(PipelineSymbol::Nested),
+                        Symbol::Step(StepSymbol::JoinEnd),
+                    ],
+                ));
             }
             if passes(Test::Word(Keyword::Union), token) {
-                return Some((Some(Use::Nothing), &[Symbol::Act(Action::Union), Symbol::Step(StepSymbol::All), Symbol::Pipeline(PipelineSymbol::Nested), Symbol::Act(Action::SetOperation)]));
+                return Some((
+                    Some(Use::Nothing),
+                    &[
+                        Symbol::Act(Action::Union),
+                        Symbol::Step(StepSymbol::All),
+                        Symbol::Pipeline(PipelineSymbol::Nested),
+                        Symbol::Act(Action::SetOperation),
+                    ],
+                ));
             }
             if passes(Test::Word(Keyword::Intersect), token) {
-                return Some((Some(Use::Nothing), &[Symbol::Act(Action::Intersect), Symbol::Step(StepSymbol::All), Symbol::Pipeline(PipelineSymbol::Nested), Symbol::Act(Action::SetOperation)]));
+                return Some((
+                    Some(Use::Nothing),
+                    &[
+                        Symbol::Act(Action::Intersect),
+                        Symbol::Step(StepSymbol::All),
+                        Symbol::Pipeline(PipelineSymbol::Nested),
+                        Symbol::Act(Action::SetOperation),
+                    ],
+                ));
             }
             if passes(Test::Word(Keyword::Except), token) {
-                return Some((Some(Use::Nothing), &[Symbol::Act(Action::Except), Symbol::Step(StepSymbol::All), Symbol::Pipeline(PipelineSymbol::Nested), Symbol::Act(Action::SetOperation)]));
+                return Some((
+                    Some(Use::Nothing),
+                    &[
+                        Symbol::Act(Action::Except),
+                        Symbol::Step(StepSymbol::All),
+                        Symbol::Pipeline(PipelineSymbol::Nested),
+                        Symbol::Act(Action::SetOperation),
+                    ],
+                ));
             }
             if passes(Test::Word(Keyword::Id), token) {
-                return Some((Some(Use::Nothing), &[Symbol::Pipeline(PipelineSymbol::Long), Symbol::Act(Action::PlanId)]));
+                return Some((
+                    Some(Use::Nothing),
+                    &[
+                        Symbol::Pipeline(PipelineSymbol::Long),
+                        Symbol::Act(Action::PlanId),
+                    ],
+                ));
             }
             None
         }
         // name "=" expr
         StepSymbol::Assignment => {
-            Some((None, &[Symbol::Pipeline(PipelineSymbol::Name), Symbol::Need(Test::Sign(Sign::Equal)), Symbol::Expression(ExpressionSymbol::Expr), Symbol::Act(Action::Assign)]))
+            Some((
+                None,
+                &[
+                    Symbol::Pipeline(PipelineSymbol::Name),
+                    Symbol::Need(Test::Sign(Sign::Equal)),
+                    Symbol::Expression(ExpressionSymbol::Expr),
+                    Symbol::Act(Action::Assign),
+                ],
+            ))
         }
         // { "," name "=" expr }
         StepSymbol::Assignments => {
             if passes(Test::Sign(Sign::Comma), token) {
-                return Some((Some(Use::Nothing), &[Symbol::Step(StepSymbol::Assignment), Symbol::Step(StepSymbol::Assignments)]));
+                return Some((
+                    Some(Use::Nothing),
+                    &[
+                        Symbol::Step(StepSymbol::Assignment),
+                        Symbol::Step(StepSymbol::Assignments),
+                    ],
+                ));
             }
             Some((None, &[]))
         }
         // name "as" name
         StepSymbol::Renaming => {
-            Some((None, &[Symbol::Pipeline(PipelineSymbol::Name), Symbol::Need(Test::Word(Keyword::As)), Symbol::Pipeline(PipelineSymbol::Name)]))
+            Some((
+                None,
+                &[
+                    Symbol::Pipeline(PipelineSymbol::Name),
+                    Symbol::Need(Test::Word(Keyword::As)),
+                    Symbol::Pipeline(PipelineSymbol::Name),
+                ],
+            ))
         }
         // { "," name "as" name }
         StepSymbol::Renamings => {
             if passes(Test::Sign(Sign::Comma), token) {
-                return Some((Some(Use::Nothing), &[Symbol::Step(StepSymbol::Renaming), Symbol::Step(StepSymbol::Renamings)]));
+                return Some((
+                    Some(Use::Nothing),
+                    &[
+                        Symbol::Step(StepSymbol::Renaming),
+                        Symbol::Step(StepSymbol::Renamings),
+                    ],
+                ));
             }
             Some((None, &[]))
         }
         // expr [ "asc" | "desc" ] [ "nulls" ("first" | "last") ]
         StepSymbol::Key => {
-            Some((None, &[Symbol::Expression(ExpressionSymbol::Expr), Symbol::Step(StepSymbol::Direction), Symbol::Step(StepSymbol::NullOrder), Symbol::Act(Action::Order)]))
+            Some((
+                None,
+                &[
+                    Symbol::Expression(ExpressionSymbol::Expr),
+                    Symbol::Step(StepSymbol::Direction),
+                    Symbol::Step(StepSymbol::NullOrder),
+                    Symbol::Act(Action::Order),
+                ],
+            ))
         }
         // { "," key }
         StepSymbol::Keys => {
             if passes(Test::Sign(Sign::Comma), token) {
-                return Some((Some(Use::Nothing), &[Symbol::Step(StepSymbol::Key), Symbol::Step(StepSymbol::Keys)]));
+                return Some((
+                    Some(Use::Nothing),
+                    &[
+                        Symbol::Step(StepSymbol::Key),
+                        Symbol::Step(StepSymbol::Keys),
+                    ],
+                ));
             }
             Some((None, &[]))
         }
@@ -249,7 +486,14 @@ fn step_rule(symbol: StepSymbol, token: &Token) -> Option<Production>
         // [ "on" names ]
         StepSymbol::DistinctNames => {
             if passes(Test::Word(Keyword::On), token) {
-                return Some((Some(Use::Nothing), &[Symbol::Pipeline(PipelineSymbol::Name), Symbol::Pipeline(PipelineSymbol::Names), Symbol::Act(Action::DeduplicateOn)]));
+                return Some((
+                    Some(Use::Nothing),
+                    &[
+                        Symbol::Pipeline(PipelineSymbol::Name),
+                        Symbol::Pipeline(PipelineSymbol::Names),
+                        Symbol::Act(Action::DeduplicateOn),
+                    ],
+                ));
             }
             Some((None, &[Symbol::Act(Action::Deduplicate)]))
         }
@@ -258,7 +502,13 @@ fn step_rule(symbol: StepSymbol, token: &Token) -> Option<Production>
             if passes(Test::Word(Keyword::Agg), token) {
                 return Some((None, &[]));
             }
-            Some((None, &[Symbol::Expression(ExpressionSymbol::Expr), Symbol::Expression(ExpressionSymbol::Exprs)]))
+            Some((
+                None,
+                &[
+                    Symbol::Expression(ExpressionSymbol::Expr),
+                    Symbol::Expression(ExpressionSymbol::Exprs),
+                ],
+            ))
         }
         // kind
         StepSymbol::JoinKind => {
@@ -288,10 +538,23 @@ fn step_rule(symbol: StepSymbol, token: &Token) -> Option<Production>
         // [ "on" expr | "using" names ]
         StepSymbol::JoinEnd => {
             if passes(Test::Word(Keyword::On), token) {
-                return Some((Some(Use::Nothing), &[Symbol::Expression(ExpressionSymbol::Expr), Symbol::Act(Action::JoinOn)]));
+                return Some((
+                    Some(Use::Nothing),
+                    &[
+                        Symbol::Expression(ExpressionSymbol::Expr),
+                        Symbol::Act(Action::JoinOn),
+                    ],
+                ));
             }
             if passes(Test::Word(Keyword::Using), token) {
-                return Some((Some(Use::Nothing), &[Symbol::Pipeline(PipelineSymbol::Name), Symbol::Pipeline(PipelineSymbol::Names), Symbol::Act(Action::JoinUsing)]));
+                return Some((
+                    Some(Use::Nothing),
+                    &[
+                        Symbol::Pipeline(PipelineSymbol::Name),
+                        Symbol::Pipeline(PipelineSymbol::Names),
+                        Symbol::Act(Action::JoinUsing),
+                    ],
+                ));
             }
             Some((None, &[Symbol::Act(Action::JoinAll)]))
         }
@@ -315,19 +578,50 @@ fn expression_rule(symbol: ExpressionSymbol, token: &Token) -> Option<Production
                 return Some((Some(Use::Nothing), &[Symbol::Act(Action::Star)]));
             }
             if passes(Test::Name, token) {
-                return Some((Some(Use::Name), &[Symbol::Expression(ExpressionSymbol::ItemName)]));
+                return Some((
+                    Some(Use::Name),
+                    &[Symbol::Expression(ExpressionSymbol::ItemName)],
+                ));
             }
-            Some((None, &[Symbol::Expression(ExpressionSymbol::Expr), Symbol::Expression(ExpressionSymbol::As)]))
+            Some((
+                None,
+                &[
+                    Symbol::Expression(ExpressionSymbol::Expr),
+                    Symbol::Expression(ExpressionSymbol::As),
+                ],
+            ))
         }
         // an item behind its first name
         ExpressionSymbol::ItemName => {
             if passes(Test::Sign(Sign::Open), token) {
-                return Some((Some(Use::Nothing), &[Symbol::Act(Action::Mark), Symbol::Unit(UnitSymbol::Arguments), Symbol::Expression(ExpressionSymbol::Operators), Symbol::Expression(ExpressionSymbol::As)]));
+                return Some((
+                    Some(Use::Nothing),
+                    &[
+                        Symbol::Act(Action::Mark),
+                        Symbol::Unit(UnitSymbol::Arguments),
+                        Symbol::Expression(ExpressionSymbol::Operators),
+                        Symbol::Expression(ExpressionSymbol::As),
+                    ],
+                ));
             }
             if passes(Test::Sign(Sign::Dot), token) {
-                return Some((Some(Use::Nothing), &[Symbol::Act(Action::Identifier), Symbol::Expression(ExpressionSymbol::ItemPart)]));
+                return Some((
+                    Some(Use::Nothing),
+                    &[
+                        Symbol::Act(Action::Identifier),
+                        Symbol::Expression(ExpressionSymbol::ItemPart),
+                    ],
+                ));
             }
-            Some((None, &[Symbol::Act(Action::Identifier), Symbol::Act(Action::Attribute), Symbol::Expression(ExpressionSymbol::Operators), Symbol::Expression(ExpressionSymbol::As)]))
+            Some((
+                None,
+                &[
+                    Symbol::Act(Action::Identifier),
+                    Symbol::Act(Action::Attribute),
+                    Symbol::Expression(ExpressionSymbol::Operators),
+                    Symbol::Expression(ExpressionSymbol::As),
+                ],
+            ))
         }
         // an item behind its first name and `.`
         ExpressionSymbol::ItemPart => {
@@ -335,89 +629,207 @@ fn expression_rule(symbol: ExpressionSymbol, token: &Token) -> Option<Production
                 return Some((Some(Use::Nothing), &[Symbol::Act(Action::StarOf)]));
             }
             if passes(Test::Name, token) {
-                return Some((Some(Use::Part), &[Symbol::Unit(UnitSymbol::Parts), Symbol::Act(Action::Attribute), Symbol::Expression(ExpressionSymbol::Operators), Symbol::Expression(ExpressionSymbol::As)]));
+                return Some((
+                    Some(Use::Part),
+                    &[
+                        Symbol::Unit(UnitSymbol::Parts),
+                        Symbol::Act(Action::Attribute),
+                        Symbol::Expression(ExpressionSymbol::Operators),
+                        Symbol::Expression(ExpressionSymbol::As),
+                    ],
+                ));
             }
             None
         }
         // { "," item }
         ExpressionSymbol::Items => {
             if passes(Test::Sign(Sign::Comma), token) {
-                return Some((Some(Use::Nothing), &[Symbol::Expression(ExpressionSymbol::Item), Symbol::Expression(ExpressionSymbol::Items)]));
+                return Some((
+                    Some(Use::Nothing),
+                    &[
+                        Symbol::Expression(ExpressionSymbol::Item),
+                        Symbol::Expression(ExpressionSymbol::Items),
+                    ],
+                ));
             }
             Some((None, &[]))
         }
         // [ "as" name ]
         ExpressionSymbol::As => {
             if passes(Test::Word(Keyword::As), token) {
-                return Some((Some(Use::Nothing), &[Symbol::Pipeline(PipelineSymbol::Name), Symbol::Act(Action::Alias)]));
+                return Some((
+                    Some(Use::Nothing),
+                    &[
+                        Symbol::Pipeline(PipelineSymbol::Name),
+                        Symbol::Act(Action::Alias),
+                    ],
+                ));
             }
             Some((None, &[]))
         }
         // what may follow a unit
         ExpressionSymbol::Operators => {
-            Some((None, &[Symbol::Expression(ExpressionSymbol::Products), Symbol::Expression(ExpressionSymbol::Sums), Symbol::Expression(ExpressionSymbol::Comparison), Symbol::Expression(ExpressionSymbol::Ands), Symbol::Expression(ExpressionSymbol::Ors)]))
+            Some((
+                None,
+                &[
+                    Symbol::Expression(ExpressionSymbol::Products),
+                    Symbol::Expression(ExpressionSymbol::Sums),
+                    Symbol::Expression(ExpressionSymbol::Comparison),
+                    Symbol::Expression(ExpressionSymbol::Ands),
+                    Symbol::Expression(ExpressionSymbol::Ors),
+                ],
+            ))
         }
         // conj { "or" conj }
         ExpressionSymbol::Expr => {
-            Some((None, &[Symbol::Expression(ExpressionSymbol::Conj), Symbol::Expression(ExpressionSymbol::Ors)]))
+            Some((
+                None,
+                &[
+                    Symbol::Expression(ExpressionSymbol::Conj),
+                    Symbol::Expression(ExpressionSymbol::Ors),
+                ],
+            ))
         }
         // { "or" conj }
         ExpressionSymbol::Ors => {
             if passes(Test::Word(Keyword::Or), token) {
-                return Some((Some(Use::Nothing), &[Symbol::Expression(ExpressionSymbol::Conj), Symbol::Act(Action::Or), Symbol::Expression(ExpressionSymbol::Ors)]));
+                return Some((
+                    Some(Use::Nothing),
+                    &[
+                        Symbol::Expression(ExpressionSymbol::Conj),
+                        Symbol::Act(Action::Or),
+                        Symbol::Expression(ExpressionSymbol::Ors),
+                    ],
+                ));
             }
             Some((None, &[]))
         }
         // neg { "and" neg }
         ExpressionSymbol::Conj => {
-            Some((None, &[Symbol::Expression(ExpressionSymbol::Neg), Symbol::Expression(ExpressionSymbol::Ands)]))
+            Some((
+                None,
+                &[
+                    Symbol::Expression(ExpressionSymbol::Neg),
+                    Symbol::Expression(ExpressionSymbol::Ands),
+                ],
+            ))
         }
         // { "and" neg }
         ExpressionSymbol::Ands => {
             if passes(Test::Word(Keyword::And), token) {
-                return Some((Some(Use::Nothing), &[Symbol::Expression(ExpressionSymbol::Neg), Symbol::Act(Action::And), Symbol::Expression(ExpressionSymbol::Ands)]));
+                return Some((
+                    Some(Use::Nothing),
+                    &[
+                        Symbol::Expression(ExpressionSymbol::Neg),
+                        Symbol::Act(Action::And),
+                        Symbol::Expression(ExpressionSymbol::Ands),
+                    ],
+                ));
             }
             Some((None, &[]))
         }
         // "not" neg | comp
         ExpressionSymbol::Neg => {
             if passes(Test::Word(Keyword::Not), token) {
-                return Some((Some(Use::Nothing), &[Symbol::Expression(ExpressionSymbol::Neg), Symbol::Act(Action::Not)]));
+                return Some((
+                    Some(Use::Nothing),
+                    &[
+                        Symbol::Expression(ExpressionSymbol::Neg),
+                        Symbol::Act(Action::Not),
+                    ],
+                ));
             }
-            Some((None, &[Symbol::Expression(ExpressionSymbol::Sum), Symbol::Expression(ExpressionSymbol::Comparison)]))
+            Some((
+                None,
+                &[
+                    Symbol::Expression(ExpressionSymbol::Sum),
+                    Symbol::Expression(ExpressionSymbol::Comparison),
+                ],
+            ))
         }
         // [ ("=" | "!=" | "<" | "<=" | ">" | ">=" | "<=>") sum | "is" [ "not" ] "null" ]
         ExpressionSymbol::Comparison => {
             if passes(Test::Sign(Sign::Equal), token) {
-                return Some((Some(Use::Nothing), &[Symbol::Expression(ExpressionSymbol::Sum), Symbol::Act(Action::Equal)]));
+                return Some((
+                    Some(Use::Nothing),
+                    &[
+                        Symbol::Expression(ExpressionSymbol::Sum),
+                        Symbol::Act(Action::Equal),
+                    ],
+                ));
             }
             if passes(Test::Sign(Sign::NotEqual), token) {
-                return Some((Some(Use::Nothing), &[Symbol::Expression(ExpressionSymbol::Sum), Symbol::Act(Action::NotEqual)]));
+                return Some((
+                    Some(Use::Nothing),
+                    &[
+                        Symbol::Expression(ExpressionSymbol::Sum),
+                        Symbol::Act(Action::NotEqual),
+                    ],
+                ));
             }
             if passes(Test::Sign(Sign::Less), token) {
-                return Some((Some(Use::Nothing), &[Symbol::Expression(ExpressionSymbol::Sum), Symbol::Act(Action::Less)]));
+                return Some((
+                    Some(Use::Nothing),
+                    &[
+                        Symbol::Expression(ExpressionSymbol::Sum),
+                        Symbol::Act(Action::Less),
+                    ],
+                ));
             }
             if passes(Test::Sign(Sign::LessEqual), token) {
-                return Some((Some(Use::Nothing), &[Symbol::Expression(ExpressionSymbol::Sum), Symbol::Act(Action::LessEqual)]));
+                return Some((
+                    Some(Use::Nothing),
+                    &[
+                        Symbol::Expression(ExpressionSymbol::Sum),
+                        Symbol::Act(Action::LessEqual),
+                    ],
+                ));
             }
             if passes(Test::Sign(Sign::Greater), token) {
-                return Some((Some(Use::Nothing), &[Symbol::Expression(ExpressionSymbol::Sum), Symbol::Act(Action::Greater)]));
+                return Some((
+                    Some(Use::Nothing),
+                    &[
+                        Symbol::Expression(ExpressionSymbol::Sum),
+                        Symbol::Act(Action::Greater),
+                    ],
+                ));
             }
             if passes(Test::Sign(Sign::GreaterEqual), token) {
-                return Some((Some(Use::Nothing), &[Symbol::Expression(ExpressionSymbol::Sum), Symbol::Act(Action::GreaterEqual)]));
+                return Some((
+                    Some(Use::Nothing),
+                    &[
+                        Symbol::Expression(ExpressionSymbol::Sum),
+                        Symbol::Act(Action::GreaterEqual),
+                    ],
+                ));
             }
             if passes(Test::Sign(Sign::SameOrNull), token) {
-                return Some((Some(Use::Nothing), &[Symbol::Expression(ExpressionSymbol::Sum), Symbol::Act(Action::SameOrNull)]));
+                return Some((
+                    Some(Use::Nothing),
+                    &[
+                        Symbol::Expression(ExpressionSymbol::Sum),
+                        Symbol::Act(Action::SameOrNull),
+                    ],
+                ));
             }
             if passes(Test::Word(Keyword::Is), token) {
-                return Some((Some(Use::Nothing), &[Symbol::Expression(ExpressionSymbol::IsNull)]));
+                return Some((
+                    Some(Use::Nothing),
+                    &[Symbol::Expression(ExpressionSymbol::IsNull)],
+                ));
             }
             Some((None, &[]))
         }
         // [ "not" ] "null"
         ExpressionSymbol::IsNull => {
             if passes(Test::Word(Keyword::Not), token) {
-                return Some((Some(Use::Nothing), &[Symbol::Need(Test::Word(Keyword::Null)), Symbol::Act(Action::IsNotNull)]));
+                return Some((
+                    Some(Use::Nothing),
+                    &[
+                        Symbol::Need(Test::Word(Keyword::Null)),
+                        Symbol::Act(Action::IsNotNull),
+                    ],
+                ));
             }
             if passes(Test::Word(Keyword::Null), token) {
                 return Some((Some(Use::Nothing), &[Symbol::Act(Action::IsNull)]));
@@ -426,39 +838,92 @@ fn expression_rule(symbol: ExpressionSymbol, token: &Token) -> Option<Production
         }
         // prod { ("+" | "-") prod }
         ExpressionSymbol::Sum => {
-            Some((None, &[Symbol::Expression(ExpressionSymbol::Prod), Symbol::Expression(ExpressionSymbol::Sums)]))
+            Some((
+                None,
+                &[
+                    Symbol::Expression(ExpressionSymbol::Prod),
+                    Symbol::Expression(ExpressionSymbol::Sums),
+                ],
+            ))
         }
         // { ("+" | "-") prod }
         ExpressionSymbol::Sums => {
             if passes(Test::Sign(Sign::Plus), token) {
-                return Some((Some(Use::Nothing), &[Symbol::Expression(ExpressionSymbol::Prod), Symbol::Act(Action::Plus), Symbol::Expression(ExpressionSymbol::Sums)]));
+                return Some((
+                    Some(Use::Nothing),
+                    &[
+                        Symbol::Expression(ExpressionSymbol::Prod),
+                        Symbol::Act(Action::Plus),
+                        Symbol::Expression(ExpressionSymbol::Sums),
+                    ],
+                ));
             }
             if passes(Test::Minus, token) {
-                return Some((Some(Use::Nothing), &[Symbol::Expression(ExpressionSymbol::Prod), Symbol::Act(Action::Minus), Symbol::Expression(ExpressionSymbol::Sums)]));
+                return Some((
+                    Some(Use::Nothing),
+                    &[
+                        Symbol::Expression(ExpressionSymbol::Prod),
+                        Symbol::Act(Action::Minus),
+                        Symbol::Expression(ExpressionSymbol::Sums),
+                    ],
+                ));
             }
             Some((None, &[]))
         }
         // unit { ("*" | "%" | "div") unit }
         ExpressionSymbol::Prod => {
-            Some((None, &[Symbol::Unit(UnitSymbol::Unit), Symbol::Expression(ExpressionSymbol::Products)]))
+            Some((
+                None,
+                &[
+                    Symbol::Unit(UnitSymbol::Unit),
+                    Symbol::Expression(ExpressionSymbol::Products),
+                ],
+            ))
         }
         // { ("*" | "%" | "div") unit }
         ExpressionSymbol::Products => {
             if passes(Test::Sign(Sign::Star), token) {
-                return Some((Some(Use::Nothing), &[Symbol::Unit(UnitSymbol::Unit), Symbol::Act(Action::Times), Symbol::Expression(ExpressionSymbol::Products)]));
+                return Some((
+                    Some(Use::Nothing),
+                    &[
+                        Symbol::Unit(UnitSymbol::Unit),
+                        Symbol::Act(Action::Times),
+                        Symbol::Expression(ExpressionSymbol::Products),
+                    ],
+                ));
             }
             if passes(Test::Sign(Sign::Percent), token) {
-                return Some((Some(Use::Nothing), &[Symbol::Unit(UnitSymbol::Unit), Symbol::Act(Action::Remainder), Symbol::Expression(ExpressionSymbol::Products)]));
+                return Some((
+                    Some(Use::Nothing),
+                    &[
+                        Symbol::Unit(UnitSymbol::Unit),
+                        Symbol::Act(Action::Remainder),
+                        Symbol::Expression(ExpressionSymbol::Products),
+                    ],
+                ));
             }
             if passes(Test::Word(Keyword::Div), token) {
-                return Some((Some(Use::Nothing), &[Symbol::Unit(UnitSymbol::Unit), Symbol::Act(Action::Div), Symbol::Expression(ExpressionSymbol::Products)]));
+                return Some((
+                    Some(Use::Nothing),
+                    &[
+                        Symbol::Unit(UnitSymbol::Unit),
+                        Symbol::Act(Action::Div),
+                        Symbol::Expression(ExpressionSymbol::Products),
+                    ],
+                ));
             }
             Some((None, &[]))
         }
         // { "," expr }
         ExpressionSymbol::Exprs => {
             if passes(Test::Sign(Sign::Comma), token) {
-                return Some((Some(Use::Nothing), &[Symbol::Expression(ExpressionSymbol::Expr), Symbol::Expression(ExpressionSymbol::Exprs)]));
+                return Some((
+                    Some(Use::Nothing),
+                    &[
+                        Symbol::Expression(ExpressionSymbol::Expr),
+                        Symbol::Expression(ExpressionSymbol::Exprs),
+                    ],
+                ));
             }
             Some((None, &[]))
         }
@@ -472,10 +937,19 @@ fn unit_rule(symbol: UnitSymbol, token: &Token) -> Option<Production>
         // unit
         UnitSymbol::Unit => {
             if passes(Test::MinusBeforeLiteral, token) {
-                return Some((Some(Use::Nothing), &[Symbol::Unit(UnitSymbol::NegativeLiteral)]));
+                return Some((
+                    Some(Use::Nothing),
+                    &[Symbol::Unit(UnitSymbol::NegativeLiteral)],
+                ));
             }
             if passes(Test::MinusApart, token) {
-                return Some((Some(Use::Nothing), &[Symbol::Unit(UnitSymbol::Unit), Symbol::Act(Action::Negative)]));
+                return Some((
+                    Some(Use::Nothing),
+                    &[
+                        Symbol::Unit(UnitSymbol::Unit),
+                        Symbol::Act(Action::Negative),
+                    ],
+                ));
             }
             if passes(Test::IntegerLiteral, token) {
                 return Some((Some(Use::IntegerLiteral), &[]));
@@ -493,22 +967,49 @@ fn unit_rule(symbol: UnitSymbol, token: &Token) -> Option<Production>
                 return Some((Some(Use::Nothing), &[Symbol::Act(Action::False)]));
             }
             if passes(Test::Word(Keyword::Null), token) {
-                return Some((Some(Use::Nothing), &[Symbol::Unit(UnitSymbol::Kind), Symbol::Act(Action::Null)]));
+                return Some((
+                    Some(Use::Nothing),
+                    &[Symbol::Unit(UnitSymbol::Kind), Symbol::Act(Action::Null)],
+                ));
             }
             if passes(Test::Word(Keyword::Date), token) {
                 return Some((Some(Use::Nothing), &[Symbol::Unit(UnitSymbol::DateText)]));
             }
             if passes(Test::Word(Keyword::Cast), token) {
-                return Some((Some(Use::Nothing), &[Symbol::Need(Test::Sign(Sign::Open)), Symbol::Expression(ExpressionSymbol::Expr), Symbol::Need(Test::Word(Keyword::As)), Symbol::Unit(UnitSymbol::Kind), Symbol::Need(Test::Sign(Sign::Close)), Symbol::Act(Action::Cast)]));
+                return Some((
+                    Some(Use::Nothing),
+                    &[
+                        Symbol::Need(Test::Sign(Sign::Open)),
+                        Symbol::Expression(ExpressionSymbol::Expr),
+                        Symbol::Need(Test::Word(Keyword::As)),
+                        Symbol::Unit(UnitSymbol::Kind),
+                        Symbol::Need(Test::Sign(Sign::Close)),
+                        Symbol::Act(Action::Cast),
+                    ],
+                ));
             }
             if passes(Test::Sign(Sign::At), token) {
-                return Some((Some(Use::Nothing), &[Symbol::Unit(UnitSymbol::PlanNumber), Symbol::Need(Test::Sign(Sign::Dot)), Symbol::Pipeline(PipelineSymbol::Name), Symbol::Act(Action::AttributeOfPlan)]));
+                return Some((
+                    Some(Use::Nothing),
+                    &[
+                        Symbol::Unit(UnitSymbol::PlanNumber),
+                        Symbol::Need(Test::Sign(Sign::Dot)),
+                        Symbol::Pipeline(PipelineSymbol::Name),
+                        Symbol::Act(Action::AttributeOfPlan),
+                    ],
+                ));
             }
             if passes(Test::Name, token) {
                 return Some((Some(Use::Name), &[Symbol::Unit(UnitSymbol::UnitName)]));
             }
             if passes(Test::Sign(Sign::Open), token) {
-                return Some((Some(Use::Nothing), &[Symbol::Expression(ExpressionSymbol::Expr), Symbol::Need(Test::Sign(Sign::Close))]));
+                return Some((
+                    Some(Use::Nothing),
+                    &[
+                        Symbol::Expression(ExpressionSymbol::Expr),
+                        Symbol::Need(Test::Sign(Sign::Close)),
+                    ],
+                ));
             }
             None
         }
@@ -539,12 +1040,32 @@ fn unit_rule(symbol: UnitSymbol, token: &Token) -> Option<Production>
         // a unit behind its first name
         UnitSymbol::UnitName => {
             if passes(Test::Sign(Sign::Open), token) {
-                return Some((Some(Use::Nothing), &[Symbol::Act(Action::Mark), Symbol::Unit(UnitSymbol::Arguments)]));
+                return Some((
+                    Some(Use::Nothing),
+                    &[
+                        Symbol::Act(Action::Mark),
+                        Symbol::Unit(UnitSymbol::Arguments),
+                    ],
+                ));
             }
             if passes(Test::Sign(Sign::Dot), token) {
-                return Some((Some(Use::Nothing), &[Symbol::Act(Action::Identifier), Symbol::Unit(UnitSymbol::Part), Symbol::Unit(UnitSymbol::Parts), Symbol::Act(Action::Attribute)]));
+                return Some((
+                    Some(Use::Nothing),
+                    &[
+                        Symbol::Act(Action::Identifier),
+                        Symbol::Unit(UnitSymbol::Part),
+                        Symbol::Unit(UnitSymbol::Parts),
+                        Symbol::Act(Action::Attribute),
+                    ],
+                ));
             }
-            Some((None, &[Symbol::Act(Action::Identifier), Symbol::Act(Action::Attribute)]))
+            Some((
+                None,
+                &[
+                    Symbol::Act(Action::Identifier),
+                    Symbol::Act(Action::Attribute),
+                ],
+            ))
         }
         // name
         UnitSymbol::Part => {
@@ -556,43 +1077,91 @@ fn unit_rule(symbol: UnitSymbol, token: &Token) -> Option<Production>
         // { "." name }
         UnitSymbol::Parts => {
             if passes(Test::Sign(Sign::Dot), token) {
-                return Some((Some(Use::Nothing), &[Symbol::Unit(UnitSymbol::Part), Symbol::Unit(UnitSymbol::Parts)]));
+                return Some((
+                    Some(Use::Nothing),
+                    &[
+                        Symbol::Unit(UnitSymbol::Part),
+                        Symbol::Unit(UnitSymbol::Parts),
+                    ],
+                ));
             }
             Some((None, &[]))
         }
         // ( "*" | [ "distinct" ] [ expr { "," expr } ] ) ")"
         UnitSymbol::Arguments => {
             if passes(Test::Sign(Sign::Star), token) {
-                return Some((Some(Use::Nothing), &[Symbol::Need(Test::Sign(Sign::Close)), Symbol::Act(Action::Star), Symbol::Act(Action::Call)]));
+                return Some((
+                    Some(Use::Nothing),
+                    &[
+                        Symbol::Need(Test::Sign(Sign::Close)),
+                        Symbol::Act(Action::Star),
+                        Symbol::Act(Action::Call),
+                    ],
+                ));
             }
             if passes(Test::Word(Keyword::Distinct), token) {
-                return Some((Some(Use::Nothing), &[Symbol::Unit(UnitSymbol::ArgumentList), Symbol::Need(Test::Sign(Sign::Close)), Symbol::Act(Action::CallDistinct)]));
+                return Some((
+                    Some(Use::Nothing),
+                    &[
+                        Symbol::Unit(UnitSymbol::ArgumentList),
+                        Symbol::Need(Test::Sign(Sign::Close)),
+                        Symbol::Act(Action::CallDistinct),
+                    ],
+                ));
             }
-            Some((None, &[Symbol::Unit(UnitSymbol::ArgumentList), Symbol::Need(Test::Sign(Sign::Close)), Symbol::Act(Action::Call)]))
+            Some((
+                None,
+                &[
+                    Symbol::Unit(UnitSymbol::ArgumentList),
+                    Symbol::Need(Test::Sign(Sign::Close)),
+                    Symbol::Act(Action::Call),
+                ],
+            ))
         }
         // [ expr { "," expr } ], before ")"
         UnitSymbol::ArgumentList => {
             if passes(Test::Sign(Sign::Close), token) {
                 return Some((None, &[]));
             }
-            Some((None, &[Symbol::Expression(ExpressionSymbol::Expr), Symbol::Expression(ExpressionSymbol::Exprs)]))
+            Some((
+                None,
+                &[
+                    Symbol::Expression(ExpressionSymbol::Expr),
+                    Symbol::Expression(ExpressionSymbol::Exprs),
+                ],
+            ))
         }
         // type
         UnitSymbol::Kind => {
             if passes(Test::Word(Keyword::Integer), token) {
-                return Some((Some(Use::Nothing), &[Symbol::Act(Action::IntegerKind)]));
+                return Some((
+                    Some(Use::Nothing),
+                    &[Symbol::Act(Action::Kind(DataType::Integer))],
+                ));
             }
             if passes(Test::Word(Keyword::Long), token) {
-                return Some((Some(Use::Nothing), &[Symbol::Act(Action::LongKind)]));
+                return Some((
+                    Some(Use::Nothing),
+                    &[Symbol::Act(Action::Kind(DataType::Long))],
+                ));
             }
             if passes(Test::Word(Keyword::String), token) {
-                return Some((Some(Use::Nothing), &[Symbol::Act(Action::TextKind)]));
+                return Some((
+                    Some(Use::Nothing),
+                    &[Symbol::Act(Action::Kind(DataType::Text))],
+                ));
             }
             if passes(Test::Word(Keyword::Boolean), token) {
-                return Some((Some(Use::Nothing), &[Symbol::Act(Action::BooleanKind)]));
+                return Some((
+                    Some(Use::Nothing),
+                    &[Symbol::Act(Action::Kind(DataType::Boolean))],
+                ));
             }
             if passes(Test::Word(Keyword::Date), token) {
-                return Some((Some(Use::Nothing), &[Symbol::Act(Action::DateKind)]));
+                return Some((
+                    Some(Use::Nothing),
+                    &[Symbol::Act(Action::Kind(DataType::Date))],
+                ));
             }
             None
         }
@@ -605,31 +1174,43 @@ fn values_rule(wanted: Option<DataType>, symbol: ValuesSymbol, token: &Token) ->
     match symbol {
         // name type
         ValuesSymbol::Column => {
-            Some((None, &[Symbol::Pipeline(PipelineSymbol::Name), Symbol::Values(ValuesSymbol::ColumnKind)]))
+            Some((
+                None,
+                &[
+                    Symbol::Pipeline(PipelineSymbol::Name),
+                    Symbol::Values(ValuesSymbol::ColumnKind),
+                ],
+            ))
         }
         // { "," name type }
         ValuesSymbol::Columns => {
             if passes(Test::Sign(Sign::Comma), token) {
-                return Some((Some(Use::Nothing), &[Symbol::Values(ValuesSymbol::Column), Symbol::Values(ValuesSymbol::Columns)]));
+                return Some((
+                    Some(Use::Nothing),
+                    &[
+                        Symbol::Values(ValuesSymbol::Column),
+                        Symbol::Values(ValuesSymbol::Columns),
+                    ],
+                ));
             }
             Some((None, &[]))
         }
         // type
         ValuesSymbol::ColumnKind => {
             if passes(Test::Word(Keyword::Integer), token) {
-                return Some((Some(Use::Nothing), &[Symbol::Act(Action::IntegerColumn)]));
+                return Some((Some(Use::Nothing), &[Symbol::Column(DataType::Integer)]));
             }
             if passes(Test::Word(Keyword::Long), token) {
-                return Some((Some(Use::Nothing), &[Symbol::Act(Action::LongColumn)]));
+                return Some((Some(Use::Nothing), &[Symbol::Column(DataType::Long)]));
             }
             if passes(Test::Word(Keyword::String), token) {
-                return Some((Some(Use::Nothing), &[Symbol::Act(Action::TextColumn)]));
+                return Some((Some(Use::Nothing), &[Symbol::Column(DataType::Text)]));
             }
             if passes(Test::Word(Keyword::Boolean), token) {
-                return Some((Some(Use::Nothing), &[Symbol::Act(Action::BooleanColumn)]));
+                return Some((Some(Use::Nothing), &[Symbol::Column(DataType::Boolean)]));
             }
             if passes(Test::Word(Keyword::Date), token) {
-                return Some((Some(Use::Nothing), &[Symbol::Act(Action::DateColumn)]));
+                return Some((Some(Use::Nothing), &[Symbol::Column(DataType::Date)]));
             }
             None
         }
@@ -653,7 +1234,10 @@ fn values_rule(wanted: Option<DataType>, symbol: ValuesSymbol, token: &Token) ->
         // the text of a cell behind "date"
         ValuesSymbol::DateCell => {
             if passes(Test::DateText, token) {
-                return Some((Some(Use::DateCell), &[Symbol::Values(ValuesSymbol::CellEnd)]));
+                return Some((
+                    Some(Use::Cell(Cell::Date)),
+                    &[Symbol::Values(ValuesSymbol::CellEnd)],
+                ));
             }
             None
         }
@@ -670,39 +1254,60 @@ fn cell_rule(kind: DataType, token: &Token) -> Option<Production>
     ensures { option_map (λ r. (r.0, r.1.now)) result ≡ grammar.cell_rule kind token.now }
 {
     if passes(Test::Word(Keyword::Null), token) {
-        return Some((Some(Use::NullCell), &[Symbol::Values(ValuesSymbol::CellEnd)]));
+        return Some((
+            Some(Use::Cell(Cell::Null)),
+            &[Symbol::Values(ValuesSymbol::CellEnd)],
+        ));
     }
     match kind {
         DataType::Integer => {
             if passes(Test::Integer, token) {
-                return Some((Some(Use::IntegerCell), &[Symbol::Values(ValuesSymbol::CellEnd)]));
+                return Some((
+                    Some(Use::Cell(Cell::Integer)),
+                    &[Symbol::Values(ValuesSymbol::CellEnd)],
+                ));
             }
             minus_rule(token)
         }
         DataType::Long => {
             if passes(Test::Long, token) {
-                return Some((Some(Use::LongCell), &[Symbol::Values(ValuesSymbol::CellEnd)]));
+                return Some((
+                    Some(Use::Cell(Cell::Long)),
+                    &[Symbol::Values(ValuesSymbol::CellEnd)],
+                ));
             }
             minus_rule(token)
         }
         DataType::Text => {
             if passes(Test::Quotation, token) {
-                return Some((Some(Use::TextCell), &[Symbol::Values(ValuesSymbol::CellEnd)]));
+                return Some((
+                    Some(Use::Cell(Cell::Text)),
+                    &[Symbol::Values(ValuesSymbol::CellEnd)],
+                ));
             }
             None
         }
         DataType::Boolean => {
             if passes(Test::Word(Keyword::True), token) {
-                return Some((Some(Use::TrueCell), &[Symbol::Values(ValuesSymbol::CellEnd)]));
+                return Some((
+                    Some(Use::Cell(Cell::True)),
+                    &[Symbol::Values(ValuesSymbol::CellEnd)],
+                ));
             }
             if passes(Test::Word(Keyword::False), token) {
-                return Some((Some(Use::FalseCell), &[Symbol::Values(ValuesSymbol::CellEnd)]));
+                return Some((
+                    Some(Use::Cell(Cell::False)),
+                    &[Symbol::Values(ValuesSymbol::CellEnd)],
+                ));
             }
             None
         }
         DataType::Date => {
             if passes(Test::Word(Keyword::Date), token) {
-                return Some((Some(Use::Nothing), &[Symbol::Values(ValuesSymbol::DateCell)]));
+                return Some((
+                    Some(Use::Nothing),
+                    &[Symbol::Values(ValuesSymbol::DateCell)],
+                ));
             }
             None
         }
@@ -713,7 +1318,10 @@ fn minus_rule(token: &Token) -> Option<Production>
     ensures { option_map (λ r. (r.0, r.1.now)) result ≡ grammar.minus_rule token.now }
 {
     if passes(Test::Minus, token) {
-        return Some((Some(Use::Nothing), &[Symbol::Values(ValuesSymbol::MinusCell)]));
+        return Some((
+            Some(Use::Nothing),
+            &[Symbol::Values(ValuesSymbol::MinusCell)],
+        ));
     }
     None
 }
@@ -725,13 +1333,19 @@ fn minus_cell_rule(kind: DataType, token: &Token) -> Option<Production>
     match kind {
         DataType::Integer => {
             if passes(Test::NegativeInteger, token) {
-                return Some((Some(Use::NegativeCell), &[Symbol::Values(ValuesSymbol::CellEnd)]));
+                return Some((
+                    Some(Use::Cell(Cell::Negative)),
+                    &[Symbol::Values(ValuesSymbol::CellEnd)],
+                ));
             }
             None
         }
         DataType::Long => {
             if passes(Test::NegativeLong, token) {
-                return Some((Some(Use::NegativeCell), &[Symbol::Values(ValuesSymbol::CellEnd)]));
+                return Some((
+                    Some(Use::Cell(Cell::Negative)),
+                    &[Symbol::Values(ValuesSymbol::CellEnd)],
+                ));
             }
             None
         }
@@ -756,7 +1370,7 @@ fn row_end_rule(token: &Token) -> Option<Production>
     if passes(Test::Sign(Sign::Close), token) {
         return Some((
             Some(Use::Nothing),
-            &[Symbol::Act(Action::Row), Symbol::Values(ValuesSymbol::Rows)],
+            &[Symbol::Row, Symbol::Values(ValuesSymbol::Rows)],
         ));
     }
     None
@@ -779,5 +1393,7 @@ pub fn rule(wanted: Option<DataType>, symbol: Symbol, token: &Token) -> Option<P
             None
         }
         Symbol::Act(_) => None,
+        Symbol::Column(_) => None,
+        Symbol::Row => None,
     }
 }

@@ -213,14 +213,22 @@ pub enum Use {
     NegativeIntegerLiteral,
     NegativeLongLiteral,
     Date,
-    NullCell,
-    IntegerCell,
-    LongCell,
-    NegativeCell,
-    TextCell,
-    TrueCell,
-    FalseCell,
-    DateCell,
+    /// A cell of a row.
+    Cell(Cell),
+}
+
+/// What a cell is.
+#[derive(Clone, Copy, Debug, PartialEq, Eq)]
+pub enum Cell {
+    Null,
+    Integer,
+    Long,
+    /// Digits behind a `-`.
+    Negative,
+    Text,
+    True,
+    False,
+    Date,
 }
 
 /// What is done with what was taken.
@@ -305,17 +313,8 @@ pub enum Action {
     AttributeOfPlan,
     Call,
     CallDistinct,
-    IntegerKind,
-    LongKind,
-    TextKind,
-    BooleanKind,
-    DateKind,
-    IntegerColumn,
-    LongColumn,
-    TextColumn,
-    BooleanColumn,
-    DateColumn,
-    Row,
+    /// A type is named.
+    Kind(DataType),
 }
 
 /// A symbol of the grammar.
@@ -330,6 +329,10 @@ pub enum Symbol {
     Need(Test),
     /// No token: something is done.
     Act(Action),
+    /// No token: a column of this type is added.
+    Column(DataType),
+    /// No token: a row ends.
+    Row,
 }
 
 /// The columns of the `values` that are read, and how many cells of the row were taken.
@@ -344,4 +347,6 @@ pub struct Columns {
 pub enum Deed {
     Take(Use, Token),
     Act(Action),
+    Column(DataType),
+    Row,
 }

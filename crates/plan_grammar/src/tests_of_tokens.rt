@@ -6,6 +6,7 @@ use plan_tokens::{Keyword, Number, Sign, Token};
 
 /// The greatest integer, and the greatest long.
 const GREATEST_INTEGER: u64 = 2_147_483_647;
+
 const GREATEST_LONG: u64 = 9_223_372_036_854_775_807;
 
 fn is_word(word: Keyword, token: &Token) -> bool
