@@ -1,6 +1,6 @@
 -- The grammar of pipelines, a line a production. Each symbol has at most one production that may stand before a token: `takes` takes the
 -- token for a use, and symbols follow; `goes` leaves it to the symbols that follow. `does` is no token, but something that is done.
-use Rattle.std.specs.Prelude.{if◌then◌else◌, List, [], ◌∷◌, Option, Some, None}
+use Rattle.std.specs.Prelude.{Bool, if◌then◌else◌, List, [], ◌∷◌, Option, Some, None}
 use Rattle.cn_types.specs.declared.value.DataType.{DataType}
 use Rattle.cn_types.specs.declared.value.DataType.TheVariants as kind
 use Rattle.plan_tokens.specs.declared.keyword.Keyword.TheVariants as word
@@ -11,6 +11,12 @@ use Rattle.plan_grammar.specs.declared.symbol.Action.TheVariants as action
 use Rattle.plan_grammar.specs.declared.symbol.Use.{Use}
 use Rattle.plan_grammar.specs.declared.symbol.Use.TheVariants as uses
 use Rattle.plan_grammar.specs.declared.symbol.Cell.TheVariants as cells
+use Rattle.plan_grammar.specs.declared.symbol.Binary.TheVariants as binarys
+use Rattle.plan_grammar.specs.declared.symbol.Unary.TheVariants as unarys
+use Rattle.plan_grammar.specs.declared.symbol.UnitAction.TheVariants as unitactions
+use Rattle.plan_grammar.specs.declared.symbol.Part.TheVariants as parts
+use Rattle.plan_grammar.specs.declared.symbol.Choice.TheVariants as choices
+use Rattle.plan_grammar.specs.declared.symbol.StepAction.TheVariants as stepactions
 use Rattle.plan_grammar.specs.declared.symbol.Test.{Test}
 use Rattle.plan_grammar.specs.declared.symbol.Test.TheVariants as test
 use Rattle.plan_grammar.specs.declared.symbol.Symbol.{Symbol}
@@ -63,9 +69,9 @@ abbrev pub pipeline_rule : PipelineSymbol → Token → Option Production
 pipeline_rule pipelines.Whole token = goes (pipeline pipelines.Source ∷ pipeline pipelines.Finish ∷ [])
 -- "range" int int int | "table" name | "values" "(" column { "," column } ")" { row }
 pipeline_rule pipelines.Source token =
-    if passes (test.Word word.Range) token then takes uses.Nothing (pipeline pipelines.Long ∷ pipeline pipelines.Long ∷ pipeline pipelines.Long ∷ does action.Range ∷ []) else (
-    if passes (test.Word word.Table) token then takes uses.Nothing (pipeline pipelines.Name ∷ does action.Read ∷ []) else (
-    if passes (test.Word word.Values) token then takes uses.NewColumns (need (test.Sign sign.Open) ∷ values valuess.Column ∷ values valuess.Columns ∷ need (test.Sign sign.Close) ∷ values valuess.Rows ∷ does action.Values ∷ []) else (
+    if passes (test.Word word.Range) token then takes uses.Nothing (pipeline pipelines.Long ∷ pipeline pipelines.Long ∷ pipeline pipelines.Long ∷ does (action.Step stepactions.Range) ∷ []) else (
+    if passes (test.Word word.Table) token then takes uses.Nothing (pipeline pipelines.Name ∷ does (action.Step stepactions.Read) ∷ []) else (
+    if passes (test.Word word.Values) token then takes uses.NewColumns (need (test.Sign sign.Open) ∷ values valuess.Column ∷ values valuess.Columns ∷ need (test.Sign sign.Close) ∷ values valuess.Rows ∷ does (action.Step stepactions.Values) ∷ []) else (
     None)))
 -- { "|" step } [ "|" ("write" | "insert") name [ mode ] ]
 pipeline_rule pipelines.Finish token =
@@ -73,16 +79,16 @@ pipeline_rule pipelines.Finish token =
     goes ([]))
 -- ("write" | "insert") name [ mode ] | step ..
 pipeline_rule pipelines.StepOrWrite token =
-    if passes (test.Word word.Write) token then takes uses.Nothing (pipeline pipelines.Name ∷ pipeline pipelines.Mode ∷ does action.Write ∷ []) else (
-    if passes (test.Word word.Insert) token then takes uses.Nothing (pipeline pipelines.Name ∷ pipeline pipelines.Mode ∷ does action.Insert ∷ []) else (
+    if passes (test.Word word.Write) token then takes uses.Nothing (pipeline pipelines.Name ∷ pipeline pipelines.Mode ∷ does (action.Step stepactions.Write) ∷ []) else (
+    if passes (test.Word word.Insert) token then takes uses.Nothing (pipeline pipelines.Name ∷ pipeline pipelines.Mode ∷ does (action.Step stepactions.Insert) ∷ []) else (
     goes (step steps.Step ∷ pipeline pipelines.Finish ∷ [])))
 -- [ "append" | "overwrite" | "error" | "ignore" ]
 pipeline_rule pipelines.Mode token =
-    if passes (test.Word word.Append) token then takes uses.Nothing (does action.Append ∷ []) else (
-    if passes (test.Word word.Overwrite) token then takes uses.Nothing (does action.Overwrite ∷ []) else (
-    if passes (test.Word word.Error) token then takes uses.Nothing (does action.ErrorIfExists ∷ []) else (
-    if passes (test.Word word.Ignore) token then takes uses.Nothing (does action.Ignore ∷ []) else (
-    goes (does action.NoMode ∷ [])))))
+    if passes (test.Word word.Append) token then takes uses.Nothing (does (action.Choice choices.Append) ∷ []) else (
+    if passes (test.Word word.Overwrite) token then takes uses.Nothing (does (action.Choice choices.Overwrite) ∷ []) else (
+    if passes (test.Word word.Error) token then takes uses.Nothing (does (action.Choice choices.ErrorIfExists) ∷ []) else (
+    if passes (test.Word word.Ignore) token then takes uses.Nothing (does (action.Choice choices.Ignore) ∷ []) else (
+    goes (does (action.Choice choices.NoMode) ∷ [])))))
 -- "(" source { "|" step } ")"
 pipeline_rule pipelines.Nested token = goes (need (test.Sign sign.Open) ∷ pipeline pipelines.Source ∷ pipeline pipelines.Steps ∷ need (test.Sign sign.Close) ∷ [])
 -- { "|" step }
@@ -119,99 +125,99 @@ pipeline_rule pipelines.NegativeLong token =
 abbrev pub step_rule : StepSymbol → Token → Option Production
 -- the steps
 step_rule steps.Step token =
-    if passes (test.Word word.Where) token then takes uses.Nothing (expression expressions.Expr ∷ does action.Filter ∷ []) else (
-    if passes (test.Word word.Select) token then takes uses.Nothing (expression expressions.Item ∷ expression expressions.Items ∷ does action.Project ∷ []) else (
-    if passes (test.Word word.With) token then takes uses.Nothing (step steps.Assignment ∷ step steps.Assignments ∷ does action.WithColumns ∷ []) else (
-    if passes (test.Word word.Drop) token then takes uses.Nothing (pipeline pipelines.Name ∷ pipeline pipelines.Names ∷ does action.Drop ∷ []) else (
-    if passes (test.Word word.Rename) token then takes uses.Nothing (step steps.Renaming ∷ step steps.Renamings ∷ does action.Rename ∷ []) else (
-    if passes (test.Word word.Names) token then takes uses.Nothing (pipeline pipelines.Name ∷ pipeline pipelines.Names ∷ does action.ToDf ∷ []) else (
-    if passes (test.Word word.Alias) token then takes uses.Nothing (pipeline pipelines.Name ∷ does action.SubqueryAlias ∷ []) else (
-    if passes (test.Word word.Sort) token then takes uses.Nothing (step steps.Key ∷ step steps.Keys ∷ does action.Sort ∷ []) else (
-    if passes (test.Word word.Limit) token then takes uses.Nothing (pipeline pipelines.Integer ∷ does action.Limit ∷ []) else (
-    if passes (test.Word word.Offset) token then takes uses.Nothing (pipeline pipelines.Integer ∷ does action.Offset ∷ []) else (
+    if passes (test.Word word.Where) token then takes uses.Nothing (expression expressions.Expr ∷ does (action.Step stepactions.Filter) ∷ []) else (
+    if passes (test.Word word.Select) token then takes uses.Nothing (expression expressions.Item ∷ expression expressions.Items ∷ does (action.Step stepactions.Project) ∷ []) else (
+    if passes (test.Word word.With) token then takes uses.Nothing (step steps.Assignment ∷ step steps.Assignments ∷ does (action.Step stepactions.WithColumns) ∷ []) else (
+    if passes (test.Word word.Drop) token then takes uses.Nothing (pipeline pipelines.Name ∷ pipeline pipelines.Names ∷ does (action.Step stepactions.Drop) ∷ []) else (
+    if passes (test.Word word.Rename) token then takes uses.Nothing (step steps.Renaming ∷ step steps.Renamings ∷ does (action.Step stepactions.Rename) ∷ []) else (
+    if passes (test.Word word.Names) token then takes uses.Nothing (pipeline pipelines.Name ∷ pipeline pipelines.Names ∷ does (action.Step stepactions.ToDf) ∷ []) else (
+    if passes (test.Word word.Alias) token then takes uses.Nothing (pipeline pipelines.Name ∷ does (action.Step stepactions.SubqueryAlias) ∷ []) else (
+    if passes (test.Word word.Sort) token then takes uses.Nothing (step steps.Key ∷ step steps.Keys ∷ does (action.Step stepactions.Sort) ∷ []) else (
+    if passes (test.Word word.Limit) token then takes uses.Nothing (pipeline pipelines.Integer ∷ does (action.Step stepactions.Limit) ∷ []) else (
+    if passes (test.Word word.Offset) token then takes uses.Nothing (pipeline pipelines.Integer ∷ does (action.Step stepactions.Offset) ∷ []) else (
     if passes (test.Word word.Distinct) token then takes uses.Nothing (step steps.DistinctNames ∷ []) else (
-    if passes (test.Word word.Group) token then takes uses.Nothing (step steps.GroupKeys ∷ need (test.Word word.Agg) ∷ does action.GroupKeys ∷ expression expressions.Item ∷ expression expressions.Items ∷ does action.Aggregate ∷ []) else (
+    if passes (test.Word word.Group) token then takes uses.Nothing (step steps.GroupKeys ∷ need (test.Word word.Agg) ∷ does (action.Part parts.GroupKeys) ∷ expression expressions.Item ∷ expression expressions.Items ∷ does (action.Step stepactions.Aggregate) ∷ []) else (
     if passes (test.Word word.Join) token then takes uses.Nothing (step steps.JoinKind ∷ pipeline pipelines.Nested ∷ step steps.JoinEnd ∷ []) else (
-    if passes (test.Word word.Union) token then takes uses.Nothing (does action.Union ∷ step steps.All ∷ pipeline pipelines.Nested ∷ does action.SetOperation ∷ []) else (
-    if passes (test.Word word.Intersect) token then takes uses.Nothing (does action.Intersect ∷ step steps.All ∷ pipeline pipelines.Nested ∷ does action.SetOperation ∷ []) else (
-    if passes (test.Word word.Except) token then takes uses.Nothing (does action.Except ∷ step steps.All ∷ pipeline pipelines.Nested ∷ does action.SetOperation ∷ []) else (
-    if passes (test.Word word.Id) token then takes uses.Nothing (pipeline pipelines.Long ∷ does action.PlanId ∷ []) else (
+    if passes (test.Word word.Union) token then takes uses.Nothing (does (action.Choice choices.Union) ∷ step steps.All ∷ pipeline pipelines.Nested ∷ does (action.Step stepactions.SetOperation) ∷ []) else (
+    if passes (test.Word word.Intersect) token then takes uses.Nothing (does (action.Choice choices.Intersect) ∷ step steps.All ∷ pipeline pipelines.Nested ∷ does (action.Step stepactions.SetOperation) ∷ []) else (
+    if passes (test.Word word.Except) token then takes uses.Nothing (does (action.Choice choices.Except) ∷ step steps.All ∷ pipeline pipelines.Nested ∷ does (action.Step stepactions.SetOperation) ∷ []) else (
+    if passes (test.Word word.Id) token then takes uses.Nothing (pipeline pipelines.Long ∷ does (action.Step stepactions.PlanId) ∷ []) else (
     None)))))))))))))))))
 -- name "=" expr
-step_rule steps.Assignment token = goes (pipeline pipelines.Name ∷ need (test.Sign sign.Equal) ∷ expression expressions.Expr ∷ does action.Assign ∷ [])
+step_rule steps.Assignment token = goes (pipeline pipelines.Name ∷ need (test.Sign sign.Equal) ∷ expression expressions.Expr ∷ does (action.Part parts.Assign) ∷ [])
 -- { "," name "=" expr }
 step_rule steps.Assignments token =
     if passes (test.Sign sign.Comma) token then takes uses.Nothing (step steps.Assignment ∷ step steps.Assignments ∷ []) else (
     goes ([]))
 -- name "as" name
-step_rule steps.Renaming token = goes (pipeline pipelines.Name ∷ need (test.Word word.As) ∷ pipeline pipelines.Name ∷ [])
+step_rule steps.Renaming token = goes (pipeline pipelines.Name ∷ need (test.Word word.As) ∷ pipeline pipelines.Name ∷ does (action.Part parts.Renaming) ∷ [])
 -- { "," name "as" name }
 step_rule steps.Renamings token =
     if passes (test.Sign sign.Comma) token then takes uses.Nothing (step steps.Renaming ∷ step steps.Renamings ∷ []) else (
     goes ([]))
 -- expr [ "asc" | "desc" ] [ "nulls" ("first" | "last") ]
-step_rule steps.Key token = goes (expression expressions.Expr ∷ step steps.Direction ∷ step steps.NullOrder ∷ does action.Order ∷ [])
+step_rule steps.Key token = goes (expression expressions.Expr ∷ step steps.Direction ∷ step steps.NullOrder ∷ does (action.Part parts.Order) ∷ [])
 -- { "," key }
 step_rule steps.Keys token =
     if passes (test.Sign sign.Comma) token then takes uses.Nothing (step steps.Key ∷ step steps.Keys ∷ []) else (
     goes ([]))
 -- [ "asc" | "desc" ]
 step_rule steps.Direction token =
-    if passes (test.Word word.Asc) token then takes uses.Nothing (does action.Ascending ∷ []) else (
-    if passes (test.Word word.Desc) token then takes uses.Nothing (does action.Descending ∷ []) else (
-    goes (does action.Ascending ∷ [])))
+    if passes (test.Word word.Asc) token then takes uses.Nothing (does (action.Choice choices.Ascending) ∷ []) else (
+    if passes (test.Word word.Desc) token then takes uses.Nothing (does (action.Choice choices.Descending) ∷ []) else (
+    goes (does (action.Choice choices.Ascending) ∷ [])))
 -- [ "nulls" ("first" | "last") ]
 step_rule steps.NullOrder token =
     if passes (test.Word word.Nulls) token then takes uses.Nothing (step steps.NullPlace ∷ []) else (
-    goes (does action.NullsByDirection ∷ []))
+    goes (does (action.Choice choices.NullsByDirection) ∷ []))
 -- "first" | "last"
 step_rule steps.NullPlace token =
-    if passes (test.Word word.First) token then takes uses.Nothing (does action.NullsFirst ∷ []) else (
-    if passes (test.Word word.Last) token then takes uses.Nothing (does action.NullsLast ∷ []) else (
+    if passes (test.Word word.First) token then takes uses.Nothing (does (action.Choice choices.NullsFirst) ∷ []) else (
+    if passes (test.Word word.Last) token then takes uses.Nothing (does (action.Choice choices.NullsLast) ∷ []) else (
     None))
 -- [ "on" names ]
 step_rule steps.DistinctNames token =
-    if passes (test.Word word.On) token then takes uses.Nothing (pipeline pipelines.Name ∷ pipeline pipelines.Names ∷ does action.DeduplicateOn ∷ []) else (
-    goes (does action.Deduplicate ∷ []))
+    if passes (test.Word word.On) token then takes uses.Nothing (pipeline pipelines.Name ∷ pipeline pipelines.Names ∷ does (action.Step stepactions.DeduplicateOn) ∷ []) else (
+    goes (does (action.Step stepactions.Deduplicate) ∷ []))
 -- [ expr { "," expr } ], before "agg"
 step_rule steps.GroupKeys token =
     if passes (test.Word word.Agg) token then goes ([]) else (
     goes (expression expressions.Expr ∷ expression expressions.Exprs ∷ []))
 -- kind
 step_rule steps.JoinKind token =
-    if passes (test.Word word.Inner) token then takes uses.Nothing (does action.InnerJoin ∷ []) else (
-    if passes (test.Word word.Full) token then takes uses.Nothing (does action.FullJoin ∷ []) else (
-    if passes (test.Word word.Left) token then takes uses.Nothing (does action.LeftJoin ∷ []) else (
-    if passes (test.Word word.Right) token then takes uses.Nothing (does action.RightJoin ∷ []) else (
-    if passes (test.Word word.Anti) token then takes uses.Nothing (does action.AntiJoin ∷ []) else (
-    if passes (test.Word word.Semi) token then takes uses.Nothing (does action.SemiJoin ∷ []) else (
-    if passes (test.Word word.Cross) token then takes uses.Nothing (does action.CrossJoin ∷ []) else (
+    if passes (test.Word word.Inner) token then takes uses.Nothing (does (action.Choice choices.InnerJoin) ∷ []) else (
+    if passes (test.Word word.Full) token then takes uses.Nothing (does (action.Choice choices.FullJoin) ∷ []) else (
+    if passes (test.Word word.Left) token then takes uses.Nothing (does (action.Choice choices.LeftJoin) ∷ []) else (
+    if passes (test.Word word.Right) token then takes uses.Nothing (does (action.Choice choices.RightJoin) ∷ []) else (
+    if passes (test.Word word.Anti) token then takes uses.Nothing (does (action.Choice choices.AntiJoin) ∷ []) else (
+    if passes (test.Word word.Semi) token then takes uses.Nothing (does (action.Choice choices.SemiJoin) ∷ []) else (
+    if passes (test.Word word.Cross) token then takes uses.Nothing (does (action.Choice choices.CrossJoin) ∷ []) else (
     None)))))))
 -- [ "on" expr | "using" names ]
 step_rule steps.JoinEnd token =
-    if passes (test.Word word.On) token then takes uses.Nothing (expression expressions.Expr ∷ does action.JoinOn ∷ []) else (
-    if passes (test.Word word.Using) token then takes uses.Nothing (pipeline pipelines.Name ∷ pipeline pipelines.Names ∷ does action.JoinUsing ∷ []) else (
-    goes (does action.JoinAll ∷ [])))
+    if passes (test.Word word.On) token then takes uses.Nothing (expression expressions.Expr ∷ does (action.Step stepactions.JoinOn) ∷ []) else (
+    if passes (test.Word word.Using) token then takes uses.Nothing (pipeline pipelines.Name ∷ pipeline pipelines.Names ∷ does (action.Step stepactions.JoinUsing) ∷ []) else (
+    goes (does (action.Step stepactions.JoinAll) ∷ [])))
 -- [ "all" ]
 step_rule steps.All token =
-    if passes (test.Word word.All) token then takes uses.Nothing (does action.All ∷ []) else (
-    goes (does action.NotAll ∷ []))
+    if passes (test.Word word.All) token then takes uses.Nothing (does (action.Choice choices.All) ∷ []) else (
+    goes (does (action.Choice choices.NotAll) ∷ []))
 
 abbrev pub expression_rule : ExpressionSymbol → Token → Option Production
 -- "*" | name "." "*" | expr [ "as" name ]
 expression_rule expressions.Item token =
-    if passes (test.Sign sign.Star) token then takes uses.Nothing (does action.Star ∷ []) else (
+    if passes (test.Sign sign.Star) token then takes uses.Nothing (does (action.Unit unitactions.Star) ∷ []) else (
     if passes test.Name token then takes uses.Name (expression expressions.ItemName ∷ []) else (
     goes (expression expressions.Expr ∷ expression expressions.As ∷ [])))
 -- an item behind its first name
 expression_rule expressions.ItemName token =
-    if passes (test.Sign sign.Open) token then takes uses.Nothing (does action.Mark ∷ unit units.Arguments ∷ expression expressions.Operators ∷ expression expressions.As ∷ []) else (
-    if passes (test.Sign sign.Dot) token then takes uses.Nothing (does action.Identifier ∷ expression expressions.ItemPart ∷ []) else (
-    goes (does action.Identifier ∷ does action.Attribute ∷ expression expressions.Operators ∷ expression expressions.As ∷ [])))
+    if passes (test.Sign sign.Open) token then takes uses.Nothing (does (action.Unit unitactions.Mark) ∷ unit units.Arguments ∷ expression expressions.Operators ∷ expression expressions.As ∷ []) else (
+    if passes (test.Sign sign.Dot) token then takes uses.Nothing (does (action.Unit unitactions.Identifier) ∷ expression expressions.ItemPart ∷ []) else (
+    goes (does (action.Unit unitactions.Identifier) ∷ does (action.Unit unitactions.Attribute) ∷ expression expressions.Operators ∷ expression expressions.As ∷ [])))
 -- an item behind its first name and `.`
 expression_rule expressions.ItemPart token =
-    if passes (test.Sign sign.Star) token then takes uses.Nothing (does action.StarOf ∷ []) else (
-    if passes test.Name token then takes uses.Part (unit units.Parts ∷ does action.Attribute ∷ expression expressions.Operators ∷ expression expressions.As ∷ []) else (
+    if passes (test.Sign sign.Star) token then takes uses.Nothing (does (action.Unit unitactions.StarOf) ∷ []) else (
+    if passes test.Name token then takes uses.Part (unit units.Parts ∷ does (action.Unit unitactions.Attribute) ∷ expression expressions.Operators ∷ expression expressions.As ∷ []) else (
     None))
 -- { "," item }
 expression_rule expressions.Items token =
@@ -219,7 +225,7 @@ expression_rule expressions.Items token =
     goes ([]))
 -- [ "as" name ]
 expression_rule expressions.As token =
-    if passes (test.Word word.As) token then takes uses.Nothing (pipeline pipelines.Name ∷ does action.Alias ∷ []) else (
+    if passes (test.Word word.As) token then takes uses.Nothing (pipeline pipelines.Name ∷ does (action.Unit unitactions.Alias) ∷ []) else (
     goes ([]))
 -- what may follow a unit
 expression_rule expressions.Operators token = goes (expression expressions.Products ∷ expression expressions.Sums ∷ expression expressions.Comparison ∷ expression expressions.Ands ∷ expression expressions.Ors ∷ [])
@@ -227,48 +233,48 @@ expression_rule expressions.Operators token = goes (expression expressions.Produ
 expression_rule expressions.Expr token = goes (expression expressions.Conj ∷ expression expressions.Ors ∷ [])
 -- { "or" conj }
 expression_rule expressions.Ors token =
-    if passes (test.Word word.Or) token then takes uses.Nothing (expression expressions.Conj ∷ does action.Or ∷ expression expressions.Ors ∷ []) else (
+    if passes (test.Word word.Or) token then takes uses.Nothing (expression expressions.Conj ∷ does (action.Binary binarys.Or) ∷ expression expressions.Ors ∷ []) else (
     goes ([]))
 -- neg { "and" neg }
 expression_rule expressions.Conj token = goes (expression expressions.Neg ∷ expression expressions.Ands ∷ [])
 -- { "and" neg }
 expression_rule expressions.Ands token =
-    if passes (test.Word word.And) token then takes uses.Nothing (expression expressions.Neg ∷ does action.And ∷ expression expressions.Ands ∷ []) else (
+    if passes (test.Word word.And) token then takes uses.Nothing (expression expressions.Neg ∷ does (action.Binary binarys.And) ∷ expression expressions.Ands ∷ []) else (
     goes ([]))
 -- "not" neg | comp
 expression_rule expressions.Neg token =
-    if passes (test.Word word.Not) token then takes uses.Nothing (expression expressions.Neg ∷ does action.Not ∷ []) else (
+    if passes (test.Word word.Not) token then takes uses.Nothing (expression expressions.Neg ∷ does (action.Unary unarys.Not) ∷ []) else (
     goes (expression expressions.Sum ∷ expression expressions.Comparison ∷ []))
 -- [ ("=" | "!=" | "<" | "<=" | ">" | ">=" | "<=>") sum | "is" [ "not" ] "null" ]
 expression_rule expressions.Comparison token =
-    if passes (test.Sign sign.Equal) token then takes uses.Nothing (expression expressions.Sum ∷ does action.Equal ∷ []) else (
-    if passes (test.Sign sign.NotEqual) token then takes uses.Nothing (expression expressions.Sum ∷ does action.NotEqual ∷ []) else (
-    if passes (test.Sign sign.Less) token then takes uses.Nothing (expression expressions.Sum ∷ does action.Less ∷ []) else (
-    if passes (test.Sign sign.LessEqual) token then takes uses.Nothing (expression expressions.Sum ∷ does action.LessEqual ∷ []) else (
-    if passes (test.Sign sign.Greater) token then takes uses.Nothing (expression expressions.Sum ∷ does action.Greater ∷ []) else (
-    if passes (test.Sign sign.GreaterEqual) token then takes uses.Nothing (expression expressions.Sum ∷ does action.GreaterEqual ∷ []) else (
-    if passes (test.Sign sign.SameOrNull) token then takes uses.Nothing (expression expressions.Sum ∷ does action.SameOrNull ∷ []) else (
+    if passes (test.Sign sign.Equal) token then takes uses.Nothing (expression expressions.Sum ∷ does (action.Binary binarys.Equal) ∷ []) else (
+    if passes (test.Sign sign.NotEqual) token then takes uses.Nothing (expression expressions.Sum ∷ does (action.Binary binarys.NotEqual) ∷ []) else (
+    if passes (test.Sign sign.Less) token then takes uses.Nothing (expression expressions.Sum ∷ does (action.Binary binarys.Less) ∷ []) else (
+    if passes (test.Sign sign.LessEqual) token then takes uses.Nothing (expression expressions.Sum ∷ does (action.Binary binarys.LessEqual) ∷ []) else (
+    if passes (test.Sign sign.Greater) token then takes uses.Nothing (expression expressions.Sum ∷ does (action.Binary binarys.Greater) ∷ []) else (
+    if passes (test.Sign sign.GreaterEqual) token then takes uses.Nothing (expression expressions.Sum ∷ does (action.Binary binarys.GreaterEqual) ∷ []) else (
+    if passes (test.Sign sign.SameOrNull) token then takes uses.Nothing (expression expressions.Sum ∷ does (action.Binary binarys.SameOrNull) ∷ []) else (
     if passes (test.Word word.Is) token then takes uses.Nothing (expression expressions.IsNull ∷ []) else (
     goes ([])))))))))
 -- [ "not" ] "null"
 expression_rule expressions.IsNull token =
-    if passes (test.Word word.Not) token then takes uses.Nothing (need (test.Word word.Null) ∷ does action.IsNotNull ∷ []) else (
-    if passes (test.Word word.Null) token then takes uses.Nothing (does action.IsNull ∷ []) else (
+    if passes (test.Word word.Not) token then takes uses.Nothing (need (test.Word word.Null) ∷ does (action.Unary unarys.IsNotNull) ∷ []) else (
+    if passes (test.Word word.Null) token then takes uses.Nothing (does (action.Unary unarys.IsNull) ∷ []) else (
     None))
 -- prod { ("+" | "-") prod }
 expression_rule expressions.Sum token = goes (expression expressions.Prod ∷ expression expressions.Sums ∷ [])
 -- { ("+" | "-") prod }
 expression_rule expressions.Sums token =
-    if passes (test.Sign sign.Plus) token then takes uses.Nothing (expression expressions.Prod ∷ does action.Plus ∷ expression expressions.Sums ∷ []) else (
-    if passes test.Minus token then takes uses.Nothing (expression expressions.Prod ∷ does action.Minus ∷ expression expressions.Sums ∷ []) else (
+    if passes (test.Sign sign.Plus) token then takes uses.Nothing (expression expressions.Prod ∷ does (action.Binary binarys.Plus) ∷ expression expressions.Sums ∷ []) else (
+    if passes test.Minus token then takes uses.Nothing (expression expressions.Prod ∷ does (action.Binary binarys.Minus) ∷ expression expressions.Sums ∷ []) else (
     goes ([])))
 -- unit { ("*" | "%" | "div") unit }
 expression_rule expressions.Prod token = goes (unit units.Unit ∷ expression expressions.Products ∷ [])
 -- { ("*" | "%" | "div") unit }
 expression_rule expressions.Products token =
-    if passes (test.Sign sign.Star) token then takes uses.Nothing (unit units.Unit ∷ does action.Times ∷ expression expressions.Products ∷ []) else (
-    if passes (test.Sign sign.Percent) token then takes uses.Nothing (unit units.Unit ∷ does action.Remainder ∷ expression expressions.Products ∷ []) else (
-    if passes (test.Word word.Div) token then takes uses.Nothing (unit units.Unit ∷ does action.Div ∷ expression expressions.Products ∷ []) else (
+    if passes (test.Sign sign.Star) token then takes uses.Nothing (unit units.Unit ∷ does (action.Binary binarys.Times) ∷ expression expressions.Products ∷ []) else (
+    if passes (test.Sign sign.Percent) token then takes uses.Nothing (unit units.Unit ∷ does (action.Binary binarys.Remainder) ∷ expression expressions.Products ∷ []) else (
+    if passes (test.Word word.Div) token then takes uses.Nothing (unit units.Unit ∷ does (action.Binary binarys.Div) ∷ expression expressions.Products ∷ []) else (
     goes ([]))))
 -- { "," expr }
 expression_rule expressions.Exprs token =
@@ -279,16 +285,16 @@ abbrev pub unit_rule : UnitSymbol → Token → Option Production
 -- unit
 unit_rule units.Unit token =
     if passes test.MinusBeforeLiteral token then takes uses.Nothing (unit units.NegativeLiteral ∷ []) else (
-    if passes test.MinusApart token then takes uses.Nothing (unit units.Unit ∷ does action.Negative ∷ []) else (
+    if passes test.MinusApart token then takes uses.Nothing (unit units.Unit ∷ does (action.Unary unarys.Negative) ∷ []) else (
     if passes test.IntegerLiteral token then takes uses.IntegerLiteral ([]) else (
     if passes test.LongLiteral token then takes uses.LongLiteral (need test.Mark ∷ []) else (
     if passes test.Quotation token then takes uses.Text ([]) else (
-    if passes (test.Word word.True) token then takes uses.Nothing (does action.True ∷ []) else (
-    if passes (test.Word word.False) token then takes uses.Nothing (does action.False ∷ []) else (
-    if passes (test.Word word.Null) token then takes uses.Nothing (unit units.Kind ∷ does action.Null ∷ []) else (
+    if passes (test.Word word.True) token then takes uses.Nothing (does (action.Unit unitactions.True) ∷ []) else (
+    if passes (test.Word word.False) token then takes uses.Nothing (does (action.Unit unitactions.False) ∷ []) else (
+    if passes (test.Word word.Null) token then takes uses.Nothing (unit units.Kind ∷ does (action.Unit unitactions.Null) ∷ []) else (
     if passes (test.Word word.Date) token then takes uses.Nothing (unit units.DateText ∷ []) else (
-    if passes (test.Word word.Cast) token then takes uses.Nothing (need (test.Sign sign.Open) ∷ expression expressions.Expr ∷ need (test.Word word.As) ∷ unit units.Kind ∷ need (test.Sign sign.Close) ∷ does action.Cast ∷ []) else (
-    if passes (test.Sign sign.At) token then takes uses.Nothing (unit units.PlanNumber ∷ need (test.Sign sign.Dot) ∷ pipeline pipelines.Name ∷ does action.AttributeOfPlan ∷ []) else (
+    if passes (test.Word word.Cast) token then takes uses.Nothing (need (test.Sign sign.Open) ∷ expression expressions.Expr ∷ need (test.Word word.As) ∷ unit units.Kind ∷ need (test.Sign sign.Close) ∷ does (action.Unit unitactions.Cast) ∷ []) else (
+    if passes (test.Sign sign.At) token then takes uses.Nothing (unit units.PlanNumber ∷ need (test.Sign sign.Dot) ∷ pipeline pipelines.Name ∷ does (action.Unit unitactions.AttributeOfPlan) ∷ []) else (
     if passes test.Name token then takes uses.Name (unit units.UnitName ∷ []) else (
     if passes (test.Sign sign.Open) token then takes uses.Nothing (expression expressions.Expr ∷ need (test.Sign sign.Close) ∷ []) else (
     None)))))))))))))
@@ -307,9 +313,9 @@ unit_rule units.PlanNumber token =
     None)
 -- a unit behind its first name
 unit_rule units.UnitName token =
-    if passes (test.Sign sign.Open) token then takes uses.Nothing (does action.Mark ∷ unit units.Arguments ∷ []) else (
-    if passes (test.Sign sign.Dot) token then takes uses.Nothing (does action.Identifier ∷ unit units.Part ∷ unit units.Parts ∷ does action.Attribute ∷ []) else (
-    goes (does action.Identifier ∷ does action.Attribute ∷ [])))
+    if passes (test.Sign sign.Open) token then takes uses.Nothing (does (action.Unit unitactions.Mark) ∷ unit units.Arguments ∷ []) else (
+    if passes (test.Sign sign.Dot) token then takes uses.Nothing (does (action.Unit unitactions.Identifier) ∷ unit units.Part ∷ unit units.Parts ∷ does (action.Unit unitactions.Attribute) ∷ []) else (
+    goes (does (action.Unit unitactions.Identifier) ∷ does (action.Unit unitactions.Attribute) ∷ [])))
 -- name
 unit_rule units.Part token =
     if passes test.Name token then takes uses.Part ([]) else (
@@ -320,9 +326,9 @@ unit_rule units.Parts token =
     goes ([]))
 -- ( "*" | [ "distinct" ] [ expr { "," expr } ] ) ")"
 unit_rule units.Arguments token =
-    if passes (test.Sign sign.Star) token then takes uses.Nothing (need (test.Sign sign.Close) ∷ does action.Star ∷ does action.Call ∷ []) else (
-    if passes (test.Word word.Distinct) token then takes uses.Nothing (unit units.ArgumentList ∷ need (test.Sign sign.Close) ∷ does action.CallDistinct ∷ []) else (
-    goes (unit units.ArgumentList ∷ need (test.Sign sign.Close) ∷ does action.Call ∷ [])))
+    if passes (test.Sign sign.Star) token then takes uses.Nothing (need (test.Sign sign.Close) ∷ does (action.Unit unitactions.Star) ∷ does (action.Unit unitactions.Call) ∷ []) else (
+    if passes (test.Word word.Distinct) token then takes uses.Nothing (unit units.ArgumentList ∷ need (test.Sign sign.Close) ∷ does (action.Unit unitactions.CallDistinct) ∷ []) else (
+    goes (unit units.ArgumentList ∷ need (test.Sign sign.Close) ∷ does (action.Unit unitactions.Call) ∷ [])))
 -- [ expr { "," expr } ], before ")"
 unit_rule units.ArgumentList token =
     if passes (test.Sign sign.Close) token then goes ([]) else (
@@ -355,8 +361,8 @@ abbrev pub cell_rule : DataType → Token → Option Production
 cell_rule kind token = if passes (test.Word word.Null) token then takes (uses.Cell cells.Null) (values valuess.CellEnd ∷ []) else kind_rule kind token
 
 abbrev pub minus_cell_rule : DataType → Token → Option Production
-minus_cell_rule kind.Integer token = if passes test.NegativeInteger token then takes (uses.Cell cells.Negative) (values valuess.CellEnd ∷ []) else None
-minus_cell_rule kind.Long token = if passes test.NegativeLong token then takes (uses.Cell cells.Negative) (values valuess.CellEnd ∷ []) else None
+minus_cell_rule kind.Integer token = if passes test.NegativeInteger token then takes (uses.Cell cells.NegativeInteger) (values valuess.CellEnd ∷ []) else None
+minus_cell_rule kind.Long token = if passes test.NegativeLong token then takes (uses.Cell cells.NegativeLong) (values valuess.CellEnd ∷ []) else None
 minus_cell_rule other token = None
 
 abbrev pub next_cell_rule : Token → Option Production

@@ -11,6 +11,6 @@ mod tests_of_tokens;
 
 pub use parsing::{GrammarFault, derivation};
 pub use symbol::{
-    Action, Cell, Columns, Deed, ExpressionSymbol, PipelineSymbol, StepSymbol, Symbol, Test,
-    UnitSymbol, Use, ValuesSymbol,
+    Action, Binary, Cell, Choice, Columns, Deed, ExpressionSymbol, Part, PipelineSymbol,
+    StepAction, StepSymbol, Symbol, Test, Unary, UnitAction, UnitSymbol, Use, ValuesSymbol,
 };

@@ -2,8 +2,8 @@ ghost use Rattle.std.specs.Prelude.{◌≡◌, option_map};
 ghost use Rattle.plan_grammar.specs.Grammar as grammar;
 
 use crate::symbol::{
-    Action, Cell, ExpressionSymbol, PipelineSymbol, StepSymbol, Symbol, Test, UnitSymbol, Use,
-    ValuesSymbol,
+    Action, Binary, Cell, Choice, ExpressionSymbol, Part, PipelineSymbol, StepAction, StepSymbol,
+    Symbol, Test, Unary, UnitAction, UnitSymbol, Use, ValuesSymbol,
 };
 use crate::tests_of_tokens::passes;
 use cn_types::DataType;
@@ -35,7 +35,7 @@ fn pipeline_rule(symbol: PipelineSymbol, token: &Token) -> Option<Production>
                         Symbol::Pipeline(PipelineSymbol::Long),
                         Symbol::Pipeline(PipelineSymbol::Long),
                         Symbol::Pipeline(PipelineSymbol::Long),
-                        Symbol::Act(Action::Range),
+                        Symbol::Act(Action::Step(StepAction::Range)),
                     ],
                 ));
             }
@@ -44,7 +44,7 @@ fn pipeline_rule(symbol: PipelineSymbol, token: &Token) -> Option<Production>
                     Some(Use::Nothing),
                     &[
                         Symbol::Pipeline(PipelineSymbol::Name),
-                        Symbol::Act(Action::Read),
+                        Symbol::Act(Action::Step(StepAction::Read)),
                     ],
                 ));
             }
@@ -57,7 +57,7 @@ fn pipeline_rule(symbol: PipelineSymbol, token: &Token) -> Option<Production>
                         Symbol::Values(ValuesSymbol::Columns),
                         Symbol::Need(Test::Sign(Sign::Close)),
                         Symbol::Values(ValuesSymbol::Rows),
-                        Symbol::Act(Action::Values),
+                        Symbol::Act(Action::Step(StepAction::Values)),
                     ],
                 ));
             }
@@ -81,7 +81,7 @@ fn pipeline_rule(symbol: PipelineSymbol, token: &Token) -> Option<Production>
                     &[
                         Symbol::Pipeline(PipelineSymbol::Name),
                         Symbol::Pipeline(PipelineSymbol::Mode),
-                        Symbol::Act(Action::Write),
+                        Symbol::Act(Action::Step(StepAction::Write)),
                     ],
                 ));
             }
@@ -91,7 +91,7 @@ fn pipeline_rule(symbol: PipelineSymbol, token: &Token) -> Option<Production>
                     &[
                         Symbol::Pipeline(PipelineSymbol::Name),
                         Symbol::Pipeline(PipelineSymbol::Mode),
-                        Symbol::Act(Action::Insert),
+                        Symbol::Act(Action::Step(StepAction::Insert)),
                     ],
                 ));
             }
@@ -106,18 +106,30 @@ fn pipeline_rule(symbol: PipelineSymbol, token: &Token) -> Option<Production>
         // [ "append" | "overwrite" | "error" | "ignore" ]
         PipelineSymbol::Mode => {
             if passes(Test::Word(Keyword::Append), token) {
-                return Some((Some(Use::Nothing), &[Symbol::Act(Action::Append)]));
+                return Some((
+                    Some(Use::Nothing),
+                    &[Symbol::Act(Action::Choice(Choice::Append))],
+                ));
             }
             if passes(Test::Word(Keyword::Overwrite), token) {
-                return Some((Some(Use::Nothing), &[Symbol::Act(Action::Overwrite)]));
+                return Some((
+                    Some(Use::Nothing),
+                    &[Symbol::Act(Action::Choice(Choice::Overwrite))],
+                ));
             }
             if passes(Test::Word(Keyword::Error), token) {
-                return Some((Some(Use::Nothing), &[Symbol::Act(Action::ErrorIfExists)]));
+                return Some((
+                    Some(Use::Nothing),
+                    &[Symbol::Act(Action::Choice(Choice::ErrorIfExists))],
+                ));
             }
             if passes(Test::Word(Keyword::Ignore), token) {
-                return Some((Some(Use::Nothing), &[Symbol::Act(Action::Ignore)]));
+                return Some((
+                    Some(Use::Nothing),
+                    &[Symbol::Act(Action::Choice(Choice::Ignore))],
+                ));
             }
-            Some((None, &[Symbol::Act(Action::NoMode)]))
+            Some((None, &[Symbol::Act(Action::Choice(Choice::NoMode))]))
         }
         // "(" source { "|" step } ")"
         PipelineSymbol::Nested => {
@@ -218,7 +230,7 @@ fn step_rule(symbol: StepSymbol, token: &Token) -> Option<Production>
                     Some(Use::Nothing),
                     &[
                         Symbol::Expression(ExpressionSymbol::Expr),
-                        Symbol::Act(Action::Filter),
+                        Symbol::Act(Action::Step(StepAction::Filter)),
                     ],
                 ));
             }
@@ -228,7 +240,7 @@ fn step_rule(symbol: StepSymbol, token: &Token) -> Option<Production>
                     &[
                         Symbol::Expression(ExpressionSymbol::Item),
                         Symbol::Expression(ExpressionSymbol::Items),
-                        Symbol::Act(Action::Project),
+                        Symbol::Act(Action::Step(StepAction::Project)),
                     ],
                 ));
             }
@@ -238,7 +250,7 @@ fn step_rule(symbol: StepSymbol, token: &Token) -> Option<Production>
                     &[
                         Symbol::Step(StepSymbol::Assignment),
                         Symbol::Step(StepSymbol::Assignments),
-                        Symbol::Act(Action::WithColumns),
+                        Symbol::Act(Action::Step(StepAction::WithColumns)),
                     ],
                 ));
             }
@@ -248,7 +260,7 @@ fn step_rule(symbol: StepSymbol, token: &Token) -> Option<Production>
                     &[
                         Symbol::Pipeline(PipelineSymbol::Name),
                         Symbol::Pipeline(PipelineSymbol::Names),
-                        Symbol::Act(Action::Drop),
+                        Symbol::Act(Action::Step(StepAction::Drop)),
                     ],
                 ));
             }
@@ -258,7 +270,7 @@ fn step_rule(symbol: StepSymbol, token: &Token) -> Option<Production>
                     &[
                         Symbol::Step(StepSymbol::Renaming),
                         Symbol::Step(StepSymbol::Renamings),
-                        Symbol::Act(Action::Rename),
+                        Symbol::Act(Action::Step(StepAction::Rename)),
                     ],
                 ));
             }
@@ -268,7 +280,7 @@ fn step_rule(symbol: StepSymbol, token: &Token) -> Option<Production>
                     &[
                         Symbol::Pipeline(PipelineSymbol::Name),
                         Symbol::Pipeline(PipelineSymbol::Names),
-                        Symbol::Act(Action::ToDf),
+                        Symbol::Act(Action::Step(StepAction::ToDf)),
                     ],
                 ));
             }
@@ -277,7 +289,7 @@ fn step_rule(symbol: StepSymbol, token: &Token) -> Option<Production>
                     Some(Use::Nothing),
                     &[
                         Symbol::Pipeline(PipelineSymbol::Name),
-                        Symbol::Act(Action::SubqueryAlias),
+                        Symbol::Act(Action::Step(StepAction::SubqueryAlias)),
                     ],
                 ));
             }
@@ -287,7 +299,7 @@ fn step_rule(symbol: StepSymbol, token: &Token) -> Option<Production>
                     &[
                         Symbol::Step(StepSymbol::Key),
                         Symbol::Step(StepSymbol::Keys),
-                        Symbol::Act(Action::Sort),
+                        Symbol::Act(Action::Step(StepAction::Sort)),
                     ],
                 ));
             }
@@ -296,7 +308,7 @@ fn step_rule(symbol: StepSymbol, token: &Token) -> Option<Production>
                     Some(Use::Nothing),
                     &[
                         Symbol::Pipeline(PipelineSymbol::Integer),
-                        Symbol::Act(Action::Limit),
+                        Symbol::Act(Action::Step(StepAction::Limit)),
                     ],
                 ));
             }
@@ -305,7 +317,7 @@ fn step_rule(symbol: StepSymbol, token: &Token) -> Option<Production>
                     Some(Use::Nothing),
                     &[
                         Symbol::Pipeline(PipelineSymbol::Integer),
-                        Symbol::Act(Action::Offset),
+                        Symbol::Act(Action::Step(StepAction::Offset)),
                     ],
                 ));
             }
@@ -321,10 +333,10 @@ fn step_rule(symbol: StepSymbol, token: &Token) -> Option<Production>
                     &[
                         Symbol::Step(StepSymbol::GroupKeys),
                         Symbol::Need(Test::Word(Keyword::Agg)),
-                        Symbol::Act(Action::GroupKeys),
+                        Symbol::Act(Action::Part(Part::GroupKeys)),
                         Symbol::Expression(ExpressionSymbol::Item),
                         Symbol::Expression(ExpressionSymbol::Items),
-                        Symbol::Act(Action::Aggregate),
+                        Symbol::Act(Action::Step(StepAction::Aggregate)),
                     ],
                 ));
             }
@@ -342,10 +354,10 @@ fn step_rule(symbol: StepSymbol, token: &Token) -> Option<Production>
                 return Some((
                     Some(Use::Nothing),
                     &[
-                        Symbol::Act(Action::Union),
+                        Symbol::Act(Action::Choice(Choice::Union)),
                         Symbol::Step(StepSymbol::All),
                         Symbol::Pipeline(PipelineSymbol::Nested),
-                        Symbol::Act(Action::SetOperation),
+                        Symbol::Act(Action::Step(StepAction::SetOperation)),
                     ],
                 ));
             }
@@ -353,10 +365,10 @@ fn step_rule(symbol: StepSymbol, token: &Token) -> Option<Production>
                 return Some((
                     Some(Use::Nothing),
                     &[
-                        Symbol::Act(Action::Intersect),
+                        Symbol::Act(Action::Choice(Choice::Intersect)),
                         Symbol::Step(StepSymbol::All),
                         Symbol::Pipeline(PipelineSymbol::Nested),
-                        Symbol::Act(Action::SetOperation),
+                        Symbol::Act(Action::Step(StepAction::SetOperation)),
                     ],
                 ));
             }
@@ -364,10 +376,10 @@ fn step_rule(symbol: StepSymbol, token: &Token) -> Option<Production>
                 return Some((
                     Some(Use::Nothing),
                     &[
-                        Symbol::Act(Action::Except),
+                        Symbol::Act(Action::Choice(Choice::Except)),
                         Symbol::Step(StepSymbol::All),
                         Symbol::Pipeline(PipelineSymbol::Nested),
-                        Symbol::Act(Action::SetOperation),
+                        Symbol::Act(Action::Step(StepAction::SetOperation)),
                     ],
                 ));
             }
@@ -376,7 +388,7 @@ fn step_rule(symbol: StepSymbol, token: &Token) -> Option<Production>
                     Some(Use::Nothing),
                     &[
                         Symbol::Pipeline(PipelineSymbol::Long),
-                        Symbol::Act(Action::PlanId),
+                        Symbol::Act(Action::Step(StepAction::PlanId)),
                     ],
                 ));
             }
@@ -390,7 +402,7 @@ fn step_rule(symbol: StepSymbol, token: &Token) -> Option<Production>
                     Symbol::Pipeline(PipelineSymbol::Name),
                     Symbol::Need(Test::Sign(Sign::Equal)),
                     Symbol::Expression(ExpressionSymbol::Expr),
-                    Symbol::Act(Action::Assign),
+                    Symbol::Act(Action::Part(Part::Assign)),
                 ],
             ))
         }
@@ -415,6 +427,7 @@ fn step_rule(symbol: StepSymbol, token: &Token) -> Option<Production>
                     Symbol::Pipeline(PipelineSymbol::Name),
                     Symbol::Need(Test::Word(Keyword::As)),
                     Symbol::Pipeline(PipelineSymbol::Name),
+                    Symbol::Act(Action::Part(Part::Renaming)),
                 ],
             ))
         }
@@ -439,7 +452,7 @@ fn step_rule(symbol: StepSymbol, token: &Token) -> Option<Production>
                     Symbol::Expression(ExpressionSymbol::Expr),
                     Symbol::Step(StepSymbol::Direction),
                     Symbol::Step(StepSymbol::NullOrder),
-                    Symbol::Act(Action::Order),
+                    Symbol::Act(Action::Part(Part::Order)),
                 ],
             ))
         }
@@ -459,27 +472,42 @@ fn step_rule(symbol: StepSymbol, token: &Token) -> Option<Production>
         // [ "asc" | "desc" ]
         StepSymbol::Direction => {
             if passes(Test::Word(Keyword::Asc), token) {
-                return Some((Some(Use::Nothing), &[Symbol::Act(Action::Ascending)]));
+                return Some((
+                    Some(Use::Nothing),
+                    &[Symbol::Act(Action::Choice(Choice::Ascending))],
+                ));
             }
             if passes(Test::Word(Keyword::Desc), token) {
-                return Some((Some(Use::Nothing), &[Symbol::Act(Action::Descending)]));
+                return Some((
+                    Some(Use::Nothing),
+                    &[Symbol::Act(Action::Choice(Choice::Descending))],
+                ));
             }
-            Some((None, &[Symbol::Act(Action::Ascending)]))
+            Some((None, &[Symbol::Act(Action::Choice(Choice::Ascending))]))
         }
         // [ "nulls" ("first" | "last") ]
         StepSymbol::NullOrder => {
             if passes(Test::Word(Keyword::Nulls), token) {
                 return Some((Some(Use::Nothing), &[Symbol::Step(StepSymbol::NullPlace)]));
             }
-            Some((None, &[Symbol::Act(Action::NullsByDirection)]))
+            Some((
+                None,
+                &[Symbol::Act(Action::Choice(Choice::NullsByDirection))],
+            ))
         }
         // "first" | "last"
         StepSymbol::NullPlace => {
             if passes(Test::Word(Keyword::First), token) {
-                return Some((Some(Use::Nothing), &[Symbol::Act(Action::NullsFirst)]));
+                return Some((
+                    Some(Use::Nothing),
+                    &[Symbol::Act(Action::Choice(Choice::NullsFirst))],
+                ));
             }
             if passes(Test::Word(Keyword::Last), token) {
-                return Some((Some(Use::Nothing), &[Symbol::Act(Action::NullsLast)]));
+                return Some((
+                    Some(Use::Nothing),
+                    &[Symbol::Act(Action::Choice(Choice::NullsLast))],
+                ));
             }
             None
         }
@@ -491,11 +519,11 @@ fn step_rule(symbol: StepSymbol, token: &Token) -> Option<Production>
                     &[
                         Symbol::Pipeline(PipelineSymbol::Name),
                         Symbol::Pipeline(PipelineSymbol::Names),
-                        Symbol::Act(Action::DeduplicateOn),
+                        Symbol::Act(Action::Step(StepAction::DeduplicateOn)),
                     ],
                 ));
             }
-            Some((None, &[Symbol::Act(Action::Deduplicate)]))
+            Some((None, &[Symbol::Act(Action::Step(StepAction::Deduplicate))]))
         }
         // [ expr { "," expr } ], before "agg"
         StepSymbol::GroupKeys => {
@@ -513,25 +541,46 @@ fn step_rule(symbol: StepSymbol, token: &Token) -> Option<Production>
         // kind
         StepSymbol::JoinKind => {
             if passes(Test::Word(Keyword::Inner), token) {
-                return Some((Some(Use::Nothing), &[Symbol::Act(Action::InnerJoin)]));
+                return Some((
+                    Some(Use::Nothing),
+                    &[Symbol::Act(Action::Choice(Choice::InnerJoin))],
+                ));
             }
             if passes(Test::Word(Keyword::Full), token) {
-                return Some((Some(Use::Nothing), &[Symbol::Act(Action::FullJoin)]));
+                return Some((
+                    Some(Use::Nothing),
+                    &[Symbol::Act(Action::Choice(Choice::FullJoin))],
+                ));
             }
             if passes(Test::Word(Keyword::Left), token) {
-                return Some((Some(Use::Nothing), &[Symbol::Act(Action::LeftJoin)]));
+                return Some((
+                    Some(Use::Nothing),
+                    &[Symbol::Act(Action::Choice(Choice::LeftJoin))],
+                ));
             }
             if passes(Test::Word(Keyword::Right), token) {
-                return Some((Some(Use::Nothing), &[Symbol::Act(Action::RightJoin)]));
+                return Some((
+                    Some(Use::Nothing),
+                    &[Symbol::Act(Action::Choice(Choice::RightJoin))],
+                ));
             }
             if passes(Test::Word(Keyword::Anti), token) {
-                return Some((Some(Use::Nothing), &[Symbol::Act(Action::AntiJoin)]));
+                return Some((
+                    Some(Use::Nothing),
+                    &[Symbol::Act(Action::Choice(Choice::AntiJoin))],
+                ));
             }
             if passes(Test::Word(Keyword::Semi), token) {
-                return Some((Some(Use::Nothing), &[Symbol::Act(Action::SemiJoin)]));
+                return Some((
+                    Some(Use::Nothing),
+                    &[Symbol::Act(Action::Choice(Choice::SemiJoin))],
+                ));
             }
             if passes(Test::Word(Keyword::Cross), token) {
-                return Some((Some(Use::Nothing), &[Symbol::Act(Action::CrossJoin)]));
+                return Some((
+                    Some(Use::Nothing),
+                    &[Symbol::Act(Action::Choice(Choice::CrossJoin))],
+                ));
             }
             None
         }
@@ -542,7 +591,7 @@ fn step_rule(symbol: StepSymbol, token: &Token) -> Option<Production>
                     Some(Use::Nothing),
                     &[
                         Symbol::Expression(ExpressionSymbol::Expr),
-                        Symbol::Act(Action::JoinOn),
+                        Symbol::Act(Action::Step(StepAction::JoinOn)),
                     ],
                 ));
             }
@@ -552,18 +601,21 @@ fn step_rule(symbol: StepSymbol, token: &Token) -> Option<Production>
                     &[
                         Symbol::Pipeline(PipelineSymbol::Name),
                         Symbol::Pipeline(PipelineSymbol::Names),
-                        Symbol::Act(Action::JoinUsing),
+                        Symbol::Act(Action::Step(StepAction::JoinUsing)),
                     ],
                 ));
             }
-            Some((None, &[Symbol::Act(Action::JoinAll)]))
+            Some((None, &[Symbol::Act(Action::Step(StepAction::JoinAll))]))
         }
         // [ "all" ]
         StepSymbol::All => {
             if passes(Test::Word(Keyword::All), token) {
-                return Some((Some(Use::Nothing), &[Symbol::Act(Action::All)]));
+                return Some((
+                    Some(Use::Nothing),
+                    &[Symbol::Act(Action::Choice(Choice::All))],
+                ));
             }
-            Some((None, &[Symbol::Act(Action::NotAll)]))
+            Some((None, &[Symbol::Act(Action::Choice(Choice::NotAll))]))
         }
     }
 }
@@ -575,7 +627,10 @@ fn expression_rule(symbol: ExpressionSymbol, token: &Token) -> Option<Production
         // "*" | name "." "*" | expr [ "as" name ]
         ExpressionSymbol::Item => {
             if passes(Test::Sign(Sign::Star), token) {
-                return Some((Some(Use::Nothing), &[Symbol::Act(Action::Star)]));
+                return Some((
+                    Some(Use::Nothing),
+                    &[Symbol::Act(Action::Unit(UnitAction::Star))],
+                ));
             }
             if passes(Test::Name, token) {
                 return Some((
@@ -597,7 +652,7 @@ fn expression_rule(symbol: ExpressionSymbol, token: &Token) -> Option<Production
                 return Some((
                     Some(Use::Nothing),
                     &[
-                        Symbol::Act(Action::Mark),
+                        Symbol::Act(Action::Unit(UnitAction::Mark)),
                         Symbol::Unit(UnitSymbol::Arguments),
                         Symbol::Expression(ExpressionSymbol::Operators),
                         Symbol::Expression(ExpressionSymbol::As),
@@ -608,7 +663,7 @@ fn expression_rule(symbol: ExpressionSymbol, token: &Token) -> Option<Production
                 return Some((
                     Some(Use::Nothing),
                     &[
-                        Symbol::Act(Action::Identifier),
+                        Symbol::Act(Action::Unit(UnitAction::Identifier)),
                         Symbol::Expression(ExpressionSymbol::ItemPart),
                     ],
                 ));
@@ -616,8 +671,8 @@ fn expression_rule(symbol: ExpressionSymbol, token: &Token) -> Option<Production
             Some((
                 None,
                 &[
-                    Symbol::Act(Action::Identifier),
-                    Symbol::Act(Action::Attribute),
+                    Symbol::Act(Action::Unit(UnitAction::Identifier)),
+                    Symbol::Act(Action::Unit(UnitAction::Attribute)),
                     Symbol::Expression(ExpressionSymbol::Operators),
                     Symbol::Expression(ExpressionSymbol::As),
                 ],
@@ -626,14 +681,17 @@ fn expression_rule(symbol: ExpressionSymbol, token: &Token) -> Option<Production
         // an item behind its first name and `.`
         ExpressionSymbol::ItemPart => {
             if passes(Test::Sign(Sign::Star), token) {
-                return Some((Some(Use::Nothing), &[Symbol::Act(Action::StarOf)]));
+                return Some((
+                    Some(Use::Nothing),
+                    &[Symbol::Act(Action::Unit(UnitAction::StarOf))],
+                ));
             }
             if passes(Test::Name, token) {
                 return Some((
                     Some(Use::Part),
                     &[
                         Symbol::Unit(UnitSymbol::Parts),
-                        Symbol::Act(Action::Attribute),
+                        Symbol::Act(Action::Unit(UnitAction::Attribute)),
                         Symbol::Expression(ExpressionSymbol::Operators),
                         Symbol::Expression(ExpressionSymbol::As),
                     ],
@@ -661,7 +719,7 @@ fn expression_rule(symbol: ExpressionSymbol, token: &Token) -> Option<Production
                     Some(Use::Nothing),
                     &[
                         Symbol::Pipeline(PipelineSymbol::Name),
-                        Symbol::Act(Action::Alias),
+                        Symbol::Act(Action::Unit(UnitAction::Alias)),
                     ],
                 ));
             }
@@ -697,7 +755,7 @@ fn expression_rule(symbol: ExpressionSymbol, token: &Token) -> Option<Production
                     Some(Use::Nothing),
                     &[
                         Symbol::Expression(ExpressionSymbol::Conj),
-                        Symbol::Act(Action::Or),
+                        Symbol::Act(Action::Binary(Binary::Or)),
                         Symbol::Expression(ExpressionSymbol::Ors),
                     ],
                 ));
@@ -721,7 +779,7 @@ fn expression_rule(symbol: ExpressionSymbol, token: &Token) -> Option<Production
                     Some(Use::Nothing),
                     &[
                         Symbol::Expression(ExpressionSymbol::Neg),
-                        Symbol::Act(Action::And),
+                        Symbol::Act(Action::Binary(Binary::And)),
                         Symbol::Expression(ExpressionSymbol::Ands),
                     ],
                 ));
@@ -735,7 +793,7 @@ fn expression_rule(symbol: ExpressionSymbol, token: &Token) -> Option<Production
                     Some(Use::Nothing),
                     &[
                         Symbol::Expression(ExpressionSymbol::Neg),
-                        Symbol::Act(Action::Not),
+                        Symbol::Act(Action::Unary(Unary::Not)),
                     ],
                 ));
             }
@@ -754,7 +812,7 @@ fn expression_rule(symbol: ExpressionSymbol, token: &Token) -> Option<Production
                     Some(Use::Nothing),
                     &[
                         Symbol::Expression(ExpressionSymbol::Sum),
-                        Symbol::Act(Action::Equal),
+                        Symbol::Act(Action::Binary(Binary::Equal)),
                     ],
                 ));
             }
@@ -763,7 +821,7 @@ fn expression_rule(symbol: ExpressionSymbol, token: &Token) -> Option<Production
                     Some(Use::Nothing),
                     &[
                         Symbol::Expression(ExpressionSymbol::Sum),
-                        Symbol::Act(Action::NotEqual),
+                        Symbol::Act(Action::Binary(Binary::NotEqual)),
                     ],
                 ));
             }
@@ -772,7 +830,7 @@ fn expression_rule(symbol: ExpressionSymbol, token: &Token) -> Option<Production
                     Some(Use::Nothing),
                     &[
                         Symbol::Expression(ExpressionSymbol::Sum),
-                        Symbol::Act(Action::Less),
+                        Symbol::Act(Action::Binary(Binary::Less)),
                     ],
                 ));
             }
@@ -781,7 +839,7 @@ fn expression_rule(symbol: ExpressionSymbol, token: &Token) -> Option<Production
                     Some(Use::Nothing),
                     &[
                         Symbol::Expression(ExpressionSymbol::Sum),
-                        Symbol::Act(Action::LessEqual),
+                        Symbol::Act(Action::Binary(Binary::LessEqual)),
                     ],
                 ));
             }
@@ -790,7 +848,7 @@ fn expression_rule(symbol: ExpressionSymbol, token: &Token) -> Option<Production
                     Some(Use::Nothing),
                     &[
                         Symbol::Expression(ExpressionSymbol::Sum),
-                        Symbol::Act(Action::Greater),
+                        Symbol::Act(Action::Binary(Binary::Greater)),
                     ],
                 ));
             }
@@ -799,7 +857,7 @@ fn expression_rule(symbol: ExpressionSymbol, token: &Token) -> Option<Production
                     Some(Use::Nothing),
                     &[
                         Symbol::Expression(ExpressionSymbol::Sum),
-                        Symbol::Act(Action::GreaterEqual),
+                        Symbol::Act(Action::Binary(Binary::GreaterEqual)),
                     ],
                 ));
             }
@@ -808,7 +866,7 @@ fn expression_rule(symbol: ExpressionSymbol, token: &Token) -> Option<Production
                     Some(Use::Nothing),
                     &[
                         Symbol::Expression(ExpressionSymbol::Sum),
-                        Symbol::Act(Action::SameOrNull),
+                        Symbol::Act(Action::Binary(Binary::SameOrNull)),
                     ],
                 ));
             }
@@ -827,12 +885,15 @@ fn expression_rule(symbol: ExpressionSymbol, token: &Token) -> Option<Production
                     Some(Use::Nothing),
                     &[
                         Symbol::Need(Test::Word(Keyword::Null)),
-                        Symbol::Act(Action::IsNotNull),
+                        Symbol::Act(Action::Unary(Unary::IsNotNull)),
                     ],
                 ));
             }
             if passes(Test::Word(Keyword::Null), token) {
-                return Some((Some(Use::Nothing), &[Symbol::Act(Action::IsNull)]));
+                return Some((
+                    Some(Use::Nothing),
+                    &[Symbol::Act(Action::Unary(Unary::IsNull))],
+                ));
             }
             None
         }
@@ -853,7 +914,7 @@ fn expression_rule(symbol: ExpressionSymbol, token: &Token) -> Option<Production
                     Some(Use::Nothing),
                     &[
                         Symbol::Expression(ExpressionSymbol::Prod),
-                        Symbol::Act(Action::Plus),
+                        Symbol::Act(Action::Binary(Binary::Plus)),
                         Symbol::Expression(ExpressionSymbol::Sums),
                     ],
                 ));
@@ -863,7 +924,7 @@ fn expression_rule(symbol: ExpressionSymbol, token: &Token) -> Option<Production
                     Some(Use::Nothing),
                     &[
                         Symbol::Expression(ExpressionSymbol::Prod),
-                        Symbol::Act(Action::Minus),
+                        Symbol::Act(Action::Binary(Binary::Minus)),
                         Symbol::Expression(ExpressionSymbol::Sums),
                     ],
                 ));
@@ -887,7 +948,7 @@ fn expression_rule(symbol: ExpressionSymbol, token: &Token) -> Option<Production
                     Some(Use::Nothing),
                     &[
                         Symbol::Unit(UnitSymbol::Unit),
-                        Symbol::Act(Action::Times),
+                        Symbol::Act(Action::Binary(Binary::Times)),
                         Symbol::Expression(ExpressionSymbol::Products),
                     ],
                 ));
@@ -897,7 +958,7 @@ fn expression_rule(symbol: ExpressionSymbol, token: &Token) -> Option<Production
                     Some(Use::Nothing),
                     &[
                         Symbol::Unit(UnitSymbol::Unit),
-                        Symbol::Act(Action::Remainder),
+                        Symbol::Act(Action::Binary(Binary::Remainder)),
                         Symbol::Expression(ExpressionSymbol::Products),
                     ],
                 ));
@@ -907,7 +968,7 @@ fn expression_rule(symbol: ExpressionSymbol, token: &Token) -> Option<Production
                     Some(Use::Nothing),
                     &[
                         Symbol::Unit(UnitSymbol::Unit),
-                        Symbol::Act(Action::Div),
+                        Symbol::Act(Action::Binary(Binary::Div)),
                         Symbol::Expression(ExpressionSymbol::Products),
                     ],
                 ));
@@ -947,7 +1008,7 @@ fn unit_rule(symbol: UnitSymbol, token: &Token) -> Option<Production>
                     Some(Use::Nothing),
                     &[
                         Symbol::Unit(UnitSymbol::Unit),
-                        Symbol::Act(Action::Negative),
+                        Symbol::Act(Action::Unary(Unary::Negative)),
                     ],
                 ));
             }
@@ -961,15 +1022,24 @@ fn unit_rule(symbol: UnitSymbol, token: &Token) -> Option<Production>
                 return Some((Some(Use::Text), &[]));
             }
             if passes(Test::Word(Keyword::True), token) {
-                return Some((Some(Use::Nothing), &[Symbol::Act(Action::True)]));
+                return Some((
+                    Some(Use::Nothing),
+                    &[Symbol::Act(Action::Unit(UnitAction::True))],
+                ));
             }
             if passes(Test::Word(Keyword::False), token) {
-                return Some((Some(Use::Nothing), &[Symbol::Act(Action::False)]));
+                return Some((
+                    Some(Use::Nothing),
+                    &[Symbol::Act(Action::Unit(UnitAction::False))],
+                ));
             }
             if passes(Test::Word(Keyword::Null), token) {
                 return Some((
                     Some(Use::Nothing),
-                    &[Symbol::Unit(UnitSymbol::Kind), Symbol::Act(Action::Null)],
+                    &[
+                        Symbol::Unit(UnitSymbol::Kind),
+                        Symbol::Act(Action::Unit(UnitAction::Null)),
+                    ],
                 ));
             }
             if passes(Test::Word(Keyword::Date), token) {
@@ -984,7 +1054,7 @@ fn unit_rule(symbol: UnitSymbol, token: &Token) -> Option<Production>
                         Symbol::Need(Test::Word(Keyword::As)),
                         Symbol::Unit(UnitSymbol::Kind),
                         Symbol::Need(Test::Sign(Sign::Close)),
-                        Symbol::Act(Action::Cast),
+                        Symbol::Act(Action::Unit(UnitAction::Cast)),
                     ],
                 ));
             }
@@ -995,7 +1065,7 @@ fn unit_rule(symbol: UnitSymbol, token: &Token) -> Option<Production>
                         Symbol::Unit(UnitSymbol::PlanNumber),
                         Symbol::Need(Test::Sign(Sign::Dot)),
                         Symbol::Pipeline(PipelineSymbol::Name),
-                        Symbol::Act(Action::AttributeOfPlan),
+                        Symbol::Act(Action::Unit(UnitAction::AttributeOfPlan)),
                     ],
                 ));
             }
@@ -1043,7 +1113,7 @@ fn unit_rule(symbol: UnitSymbol, token: &Token) -> Option<Production>
                 return Some((
                     Some(Use::Nothing),
                     &[
-                        Symbol::Act(Action::Mark),
+                        Symbol::Act(Action::Unit(UnitAction::Mark)),
                         Symbol::Unit(UnitSymbol::Arguments),
                     ],
                 ));
@@ -1052,18 +1122,18 @@ fn unit_rule(symbol: UnitSymbol, token: &Token) -> Option<Production>
                 return Some((
                     Some(Use::Nothing),
                     &[
-                        Symbol::Act(Action::Identifier),
+                        Symbol::Act(Action::Unit(UnitAction::Identifier)),
                         Symbol::Unit(UnitSymbol::Part),
                         Symbol::Unit(UnitSymbol::Parts),
-                        Symbol::Act(Action::Attribute),
+                        Symbol::Act(Action::Unit(UnitAction::Attribute)),
                     ],
                 ));
             }
             Some((
                 None,
                 &[
-                    Symbol::Act(Action::Identifier),
-                    Symbol::Act(Action::Attribute),
+                    Symbol::Act(Action::Unit(UnitAction::Identifier)),
+                    Symbol::Act(Action::Unit(UnitAction::Attribute)),
                 ],
             ))
         }
@@ -1094,8 +1164,8 @@ fn unit_rule(symbol: UnitSymbol, token: &Token) -> Option<Production>
                     Some(Use::Nothing),
                     &[
                         Symbol::Need(Test::Sign(Sign::Close)),
-                        Symbol::Act(Action::Star),
-                        Symbol::Act(Action::Call),
+                        Symbol::Act(Action::Unit(UnitAction::Star)),
+                        Symbol::Act(Action::Unit(UnitAction::Call)),
                     ],
                 ));
             }
@@ -1105,7 +1175,7 @@ fn unit_rule(symbol: UnitSymbol, token: &Token) -> Option<Production>
                     &[
                         Symbol::Unit(UnitSymbol::ArgumentList),
                         Symbol::Need(Test::Sign(Sign::Close)),
-                        Symbol::Act(Action::CallDistinct),
+                        Symbol::Act(Action::Unit(UnitAction::CallDistinct)),
                     ],
                 ));
             }
@@ -1114,7 +1184,7 @@ fn unit_rule(symbol: UnitSymbol, token: &Token) -> Option<Production>
                 &[
                     Symbol::Unit(UnitSymbol::ArgumentList),
                     Symbol::Need(Test::Sign(Sign::Close)),
-                    Symbol::Act(Action::Call),
+                    Symbol::Act(Action::Unit(UnitAction::Call)),
                 ],
             ))
         }
@@ -1334,7 +1404,7 @@ fn minus_cell_rule(kind: DataType, token: &Token) -> Option<Production>
         DataType::Integer => {
             if passes(Test::NegativeInteger, token) {
                 return Some((
-                    Some(Use::Cell(Cell::Negative)),
+                    Some(Use::Cell(Cell::NegativeInteger)),
                     &[Symbol::Values(ValuesSymbol::CellEnd)],
                 ));
             }
@@ -1343,7 +1413,7 @@ fn minus_cell_rule(kind: DataType, token: &Token) -> Option<Production>
         DataType::Long => {
             if passes(Test::NegativeLong, token) {
                 return Some((
-                    Some(Use::Cell(Cell::Negative)),
+                    Some(Use::Cell(Cell::NegativeLong)),
                     &[Symbol::Values(ValuesSymbol::CellEnd)],
                 ));
             }

@@ -224,26 +224,105 @@ pub enum Cell {
     Integer,
     Long,
     /// Digits behind a `-`.
-    Negative,
+    NegativeInteger,
+    /// Digits behind a `-`.
+    NegativeLong,
     Text,
     True,
     False,
     Date,
 }
 
-/// What is done with what was taken.
+/// An operator of two units.
 #[derive(Clone, Copy, Debug, PartialEq, Eq)]
-pub enum Action {
-    Range,
-    Read,
-    Values,
-    Write,
-    Insert,
+pub enum Binary {
+    Or,
+    And,
+    Equal,
+    NotEqual,
+    Less,
+    LessEqual,
+    Greater,
+    GreaterEqual,
+    SameOrNull,
+    Plus,
+    Minus,
+    Times,
+    Remainder,
+    Div,
+}
+
+/// An operator of one unit.
+#[derive(Clone, Copy, Debug, PartialEq, Eq)]
+pub enum Unary {
+    Not,
+    IsNotNull,
+    IsNull,
+    Negative,
+}
+
+/// What makes units and items.
+#[derive(Clone, Copy, Debug, PartialEq, Eq)]
+pub enum UnitAction {
+    Star,
+    Mark,
+    Identifier,
+    Attribute,
+    StarOf,
+    Alias,
+    True,
+    False,
+    Null,
+    Cast,
+    AttributeOfPlan,
+    Call,
+    CallDistinct,
+}
+
+/// What makes parts of a step.
+#[derive(Clone, Copy, Debug, PartialEq, Eq)]
+pub enum Part {
+    GroupKeys,
+    Assign,
+    Renaming,
+    Order,
+}
+
+/// What was chosen.
+#[derive(Clone, Copy, Debug, PartialEq, Eq)]
+pub enum Choice {
     Append,
     Overwrite,
     ErrorIfExists,
     Ignore,
     NoMode,
+    Union,
+    Intersect,
+    Except,
+    Ascending,
+    Descending,
+    NullsByDirection,
+    NullsFirst,
+    NullsLast,
+    InnerJoin,
+    FullJoin,
+    LeftJoin,
+    RightJoin,
+    AntiJoin,
+    SemiJoin,
+    CrossJoin,
+    All,
+    NotAll,
+}
+
+/// What makes relations and writes.
+#[derive(Clone, Copy, Debug, PartialEq, Eq)]
+pub enum StepAction {
+    Range,
+    Read,
+    Values,
+    Write,
+    Insert,
     Filter,
     Project,
     WithColumns,
@@ -254,65 +333,25 @@ pub enum Action {
     Sort,
     Limit,
     Offset,
-    GroupKeys,
     Aggregate,
-    Union,
     SetOperation,
-    Intersect,
-    Except,
     PlanId,
-    Assign,
-    Order,
-    Ascending,
-    Descending,
-    NullsByDirection,
-    NullsFirst,
-    NullsLast,
     DeduplicateOn,
     Deduplicate,
-    InnerJoin,
-    FullJoin,
-    LeftJoin,
-    RightJoin,
-    AntiJoin,
-    SemiJoin,
-    CrossJoin,
     JoinOn,
     JoinUsing,
     JoinAll,
-    All,
-    NotAll,
-    Star,
-    Mark,
-    Identifier,
-    Attribute,
-    StarOf,
-    Alias,
-    Or,
-    And,
-    Not,
-    Equal,
-    NotEqual,
-    Less,
-    LessEqual,
-    Greater,
-    GreaterEqual,
-    SameOrNull,
-    IsNotNull,
-    IsNull,
-    Plus,
-    Minus,
-    Times,
-    Remainder,
-    Div,
-    Negative,
-    True,
-    False,
-    Null,
-    Cast,
-    AttributeOfPlan,
-    Call,
-    CallDistinct,
+}
+
+/// What is done with what was taken.
+#[derive(Clone, Copy, Debug, PartialEq, Eq)]
+pub enum Action {
+    Binary(Binary),
+    Unary(Unary),
+    Unit(UnitAction),
+    Part(Part),
+    Choice(Choice),
+    Step(StepAction),
     /// A type is named.
     Kind(DataType),
 }
