@@ -14,7 +14,7 @@ use Rattle.std.specs.Prelude.{Result, Ok, Err}
 use Rattle.plan_grammar.specs.declared.parsing.GrammarFault.{GrammarFault}
 use Rattle.plan_grammar.specs.declared.parsing.GrammarFault.TheVariants.{Unexpected, OutOfMemory}
 use Rattle.plan_grammar.specs.Grammar.{rule}
-use Rattle.plan_grammar.specs.Derivation.{Derives, over, does, goes, takes, Reads, begins, has_done, has_gone, has_taken, IsPipeline, wanted_of, behind_use, after_doing, deed_of, kept, head_of, next_of, no_columns, whole, Config, Outcome, More, Over, Refused, by_left, by_rule, by_deed, at_end, by_symbols, step_of, IsUnexpected, only_tokens, place_of}
+use Rattle.plan_grammar.specs.Derivation.{Derives, over, does, goes, takes, Reads, begins, has_done, has_gone, has_taken, IsPipeline, OneDerivation, wanted_of, behind_use, after_doing, deed_of, kept, head_of, next_of, no_columns, whole, Config, Outcome, More, Over, Refused, by_left, by_rule, by_deed, at_end, by_symbols, step_of, IsUnexpected, only_tokens, place_of}
 use Rattle.plan_tokens.specs.declared.token.Placed.{Placed}
 use Rattle.plan_tokens.specs.declared.token.Token.TheVariants.{End}
 use Rattle.plan_tokens.specs.Tokens.{tokens_of}
@@ -309,3 +309,43 @@ fault_place (Err OutOfMemory) = 0
 pub same_place : {A : Type 0} {a b : ℕ} → ◌≡◌ {A = Result A GrammarFault} (Err (Unexpected a)) (Err (Unexpected b)) → a ≡ b
 unfolding fault_place
 same_place e = ap fault_place e
+
+-- ---- one derivation
+
+pub unique : {columns : Columns} {symbols : List Symbol} {tokens : List Token} {deeds : List Deed} → Derives columns symbols tokens deeds
+    → (other : List Deed) → Derives columns symbols tokens other → deeds ≡ other
+unique (over columns) other d = sym (nothing_left columns [] other d).1
+unique (does columns one symbols tokens deeds done is rest) other d =
+    elim (first columns one symbols tokens other d) [
+      | by_doing found more e f g ↦
+          let same : found ≡ done = same_Some found done (sym e ∙ is) in
+          ap (λ (x : Deed). x ∷ deeds) (sym same) ∙ ap (λ (ds : List Deed). found ∷ ds) (unique rest more (subst (λ (x : Deed). Derives (after_doing x columns) symbols tokens more) same g)) ∙ sym f
+      | by_going production e g ↦ none_some (no_rule (wanted_of columns) one (next_of tokens) done is) e
+      | by_taking used production token left more f e h g ↦ none_some (no_rule (wanted_of columns) one token done is) e
+    ]
+unique (goes columns one symbols production tokens deeds is rest) other d =
+    elim (first columns one symbols tokens other d) [
+      | by_doing found more e f g ↦ none_some (no_rule (wanted_of columns) one (next_of tokens) found e) is
+      | by_going found e g ↦ unique rest other (subst (λ (p : List Symbol). Derives columns (p ++ symbols) tokens other) (same_production (sym e ∙ is)).1 g)
+      | by_taking used found token left more f e h g ↦ absurd (not_both (same_production (sym e ∙ ap (rule (wanted_of columns) one) (sym (ap next_of f)) ∙ is)).0)
+    ]
+unique (takes columns one symbols production token tokens deeds used is rest) other d =
+    elim (first columns one symbols (token ∷ tokens) other d) [
+      | by_doing found more e f g ↦ none_some (no_rule (wanted_of columns) one token found e) is
+      | by_going found e g ↦ absurd (not_both (sym (same_production (sym e ∙ is)).0))
+      | by_taking found p first_token left more f e h g ↦
+          let same_token : first_token ≡ token = ap next_of (sym f) in
+          let same_left : left ≡ tokens = ap (λ (ts : List Token). drop 1 ts) (sym f) in
+          let there : rule (wanted_of columns) one token ≡ Some (Some found, p) = ap (rule (wanted_of columns) one) (sym same_token) ∙ e in
+          let same = same_production (sym there ∙ is) in
+          let same_use : found ≡ used = same_Some found used same.0 in
+          let again : Derives (behind_use used columns) (production ++ symbols) tokens more =
+          subst (λ (u : Use). Derives (behind_use u columns) (production ++ symbols) tokens more) same_use
+          (subst (λ (q : List Symbol). Derives (behind_use found columns) (q ++ symbols) tokens more) same.1
+          (subst (λ (ts : List Token). Derives (behind_use found columns) (p ++ symbols) ts more) same_left g)) in
+          ap (λ (ds : List Deed). kept used token ++ ds) (unique rest more again)
+          ∙ ap (λ (u : Use). kept u token ++ more) (sym same_use) ∙ ap (λ (t : Token). kept found t ++ more) (sym same_token) ∙ sym h
+    ]
+
+pub one_derivation : OneDerivation
+one_derivation tokens one other a b = unique a other b

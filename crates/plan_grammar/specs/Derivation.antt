@@ -81,6 +81,10 @@ whole = symbol.Pipeline Whole ∷ []
 abbrev pub IsPipeline : List Token → List Deed → Type 0
 IsPipeline tokens deeds = Derives no_columns whole tokens deeds
 
+-- tokens are a pipeline by one list of deeds
+abbrev pub OneDerivation : Type 0
+OneDerivation = (tokens : List Token) (one other : List Deed) → IsPipeline tokens one → IsPipeline tokens other → one ≡ other
+
 -- From the whole, tokens have been read, and these are the deeds so far. There are columns, symbols that stand for what is left, and the tokens
 -- that are left.
 pub data Reads : List Token → List Deed → Columns → List Symbol → List Token → Type 0 where

@@ -1,6 +1,6 @@
 -- The grammar of pipelines, a line a production. Each symbol has at most one production that may stand before a token: `takes` takes the
 -- token for a use, and symbols follow; `goes` leaves it to the symbols that follow. `does` is no token, but something that is done.
-use Rattle.std.specs.Prelude.{Bool, if◌then◌else◌, List, [], ◌∷◌, Option, Some, None}
+use Rattle.std.specs.Prelude.{if◌then◌else◌, List, [], ◌∷◌, Option, Some, None}
 use Rattle.cn_types.specs.declared.value.DataType.{DataType}
 use Rattle.cn_types.specs.declared.value.DataType.TheVariants as kind
 use Rattle.plan_tokens.specs.declared.keyword.Keyword.TheVariants as word

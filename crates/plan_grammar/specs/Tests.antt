@@ -1,5 +1,5 @@
 -- What a token has to be.
-use Rattle.std.specs.Prelude.{ℕ, ◌+◌, Bool, true, false, not, ◌&&◌, ◌||◌, ◌==◌, nat_le, List, [], ◌∷◌, Option, Some, None, is_some, bytes_eq}
+use Rattle.std.specs.Prelude.{ℕ, Bool, true, false, not, ◌&&◌, ◌||◌, ◌==◌, nat_le, [], ◌∷◌, Option, Some, None, is_some, bytes_eq}
 use Rattle.plan_tokens.specs.declared.keyword.Keyword.{Keyword}
 use Rattle.plan_tokens.specs.declared.keyword.Keyword.TheVariants as word
 use Rattle.plan_tokens.specs.declared.token.Sign.{Sign}

@@ -9,7 +9,7 @@ mod stack;
 mod symbol;
 mod tests_of_tokens;
 
-pub use parsing::{GrammarFault, derivation};
+pub use parsing::{GrammarFault, a_text_has_one_derivation, derivation};
 pub use symbol::{
     Action, Binary, Cell, Choice, Columns, Deed, ExpressionSymbol, Part, PipelineSymbol,
     StepAction, StepSymbol, Symbol, Test, Unary, UnitAction, UnitSymbol, Use, ValuesSymbol,

@@ -1,7 +1,7 @@
 ghost use Rattle.std.specs.Prelude.{◌≡◌, ◌≢◌, ℕ, List as AnyList, IfOk, IfErr};
 ghost use Rattle.plan_tokens.specs.Tokens.{tokens_of};
 ghost use Rattle.plan_grammar.specs.declared.parsing.GrammarFault.TheVariants.{OutOfMemory as no_memory};
-ghost use Rattle.plan_grammar.specs.Derivation.{IsPipeline, IsUnexpected, only_tokens};
+ghost use Rattle.plan_grammar.specs.Derivation.{IsPipeline, IsUnexpected, only_tokens, OneDerivation};
 
 use crate::reader::{Reader, Turn};
 use crate::symbol::Deed;
@@ -45,3 +45,8 @@ pub fn derivation(alloc: Global, text: &str) -> Result<List<Deed>, GrammarFault>
     }
     Err(GrammarFault::OutOfMemory)
 }
+
+/// Law: the tokens of a text have one derivation.
+pub fn a_text_has_one_derivation()
+    ensures { OneDerivation }
+{}

@@ -1,0 +1,4 @@
+pub mod Drafts
+pub mod Names
+pub mod Piles
+pub mod Pipelines
