@@ -1,9 +1,11 @@
 -- What the evaluation of relations is stated by, beside the outcomes that a relation allows.
+pub mod Calls
 pub mod Copies
 pub mod Firsts
 pub mod Given
 pub mod Grouped
 pub mod KeyedRows
+pub mod Members
 pub mod Places
 pub mod RangeRows
 pub mod SortKeys

@@ -1,7 +1,9 @@
 //! The rows of resolved plans, or the limit that they exceed: a function for each kind of relation, over the rows of its inputs.
 #![tactic(auto)]
 
+mod aggregates;
 mod buckets;
+mod calls;
 mod firsts;
 mod given;
 mod limits;
@@ -10,6 +12,7 @@ mod selections;
 mod sets;
 mod sorting;
 
+pub use aggregates::aggregate;
 pub use buckets::Buckets;
 pub use firsts::distinct_on;
 pub use given::{Given, HeldRows};

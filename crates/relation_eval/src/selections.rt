@@ -30,7 +30,8 @@ pub(crate) fn images_of(
 ) -> Result<Vec<Row>, OutOfMemory>
     requires literals { All HasLiteralsInRange items.now }
     requires dates { All HasDatesInRange rows.now }
-    ensures { IfOk result (λ v. v.items ≡ projected items.now rows.now) }
+    ensures images { IfOk result (λ v. v.items ≡ projected items.now rows.now) }
+    ensures dates { IfOk result (λ v. All HasDatesInRange v.items) }
 {
     let mut images = Vec::new(alloc);
     for row in rows {
@@ -47,7 +48,8 @@ pub(crate) fn image_of(
 ) -> Result<Row, OutOfMemory>
     requires literals { All HasLiteralsInRange items.now }
     requires dates { HasDatesInRange row.now }
-    ensures { IfOk result (λ r. r ≡ image items.now row.now) }
+    ensures image { IfOk result (λ r. r ≡ image items.now row.now) }
+    ensures dates { IfOk result HasDatesInRange }
 {
     let mut values = List::new(alloc);
     for item in items.as_slice() {

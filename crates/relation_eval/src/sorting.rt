@@ -134,7 +134,8 @@ fn order_by(key: &SortKey, left: &Value, right: &Value) -> Ordering
     nulls.then(values)
 }
 
-fn is_value(value: &Value) -> bool
+/// Whether the value is not null.
+pub(crate) fn is_value(value: &Value) -> bool
     ensures { result ≡ is_present value.now }
 {
     match value {
