@@ -2,6 +2,8 @@ pub mod BucketFacts
 pub mod CallFacts
 pub mod FirstFacts
 pub mod GroupFacts
+pub mod JoinedFacts
+pub mod MatchFacts
 pub mod RangeSteps
 pub mod SetFacts
 pub mod SortFacts

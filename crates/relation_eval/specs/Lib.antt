@@ -4,7 +4,9 @@ pub mod Copies
 pub mod Firsts
 pub mod Given
 pub mod Grouped
+pub mod Joined
 pub mod KeyedRows
+pub mod Matches
 pub mod Members
 pub mod Places
 pub mod RangeRows
