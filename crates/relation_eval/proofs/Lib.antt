@@ -1,5 +1,6 @@
 pub mod BucketFacts
 pub mod CallFacts
+pub mod EvaluateFacts
 pub mod FirstFacts
 pub mod GroupFacts
 pub mod JoinedFacts

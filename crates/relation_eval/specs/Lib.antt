@@ -11,3 +11,4 @@ pub mod Members
 pub mod Places
 pub mod RangeRows
 pub mod SortKeys
+pub mod Steps

@@ -1,5 +1,5 @@
-ghost use Rattle.std.specs.Prelude.{◌≡◌, IfOk};
-ghost use Rattle.relation_eval.specs.Given.{rows_of};
+ghost use Rattle.std.specs.Prelude.{◌≡◌, IfOk, is_ok};
+ghost use Rattle.relation_eval.specs.Given.{rows_of, outcome_of};
 
 use cn_base::{Copied, List, OutOfMemory};
 use cn_types::{Row, RowList};
@@ -50,6 +50,19 @@ impl HeldRows {
         match self {
             HeldRows::Shared(rows) => Ok(rows),
             HeldRows::Owned(rows) => RowList::of(alloc, List::from_vec(rows)),
+        }
+    }
+}
+
+impl Given {
+    /// Whether there are rows, and no limit is exceeded.
+    pub(crate) fn has_rows(&self) -> bool
+        ensures { result ≡ is_ok (outcome_of self.now) }
+    {
+        match self {
+            Given::Rows(_) => true,
+            Given::TooManyRows => false,
+            Given::RowTooLarge => false,
         }
     }
 }

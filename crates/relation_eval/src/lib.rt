@@ -4,6 +4,7 @@
 mod aggregates;
 mod buckets;
 mod calls;
+mod evaluation;
 mod firsts;
 mod given;
 mod joins;
@@ -13,9 +14,12 @@ mod ranges;
 mod selections;
 mod sets;
 mod sorting;
+mod steps;
+mod widths;
 
 pub use aggregates::aggregate;
 pub use buckets::Buckets;
+pub use evaluation::evaluate;
 pub use firsts::distinct_on;
 pub use given::{Given, HeldRows};
 pub use joins::join;
