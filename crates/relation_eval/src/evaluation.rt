@@ -22,9 +22,9 @@ use cn_types::RowList;
 use plan_model::{JoinKind, Node, Outcome, Resolved, SetKind, TypedExpr};
 use std::alloc::Global;
 
-#[tactic(auto, unfolding(plan_model::specs::Outcomes::row_limit, plan_model::specs::Outcomes::weight_limit))]
 /// What a plan gives: its rows under its schema, or the first limit that a relation passes, the inputs of each relation first, from left to
 /// right. Rows that the plan holds are shared and not copied.
+#[tactic(auto, unfolding(plan_model::specs::Outcomes::row_limit, plan_model::specs::Outcomes::weight_limit))]
 pub fn evaluate(alloc: Global, plan: &Resolved) -> Result<Outcome, OutOfMemory>
     requires { IsWellFormedPlan plan.now }
     ensures { IfOk result (λ outcome. AllowsPlan plan.now outcome) }
