@@ -1,6 +1,6 @@
 -- The rows of a join, as they are found.
 use Rattle.std.proofs.Common.{◌≡◌, ◌<◌, ◌*◌, ℕ, Bool, false, cond, List, [], ◌∷◌, ◌++◌, map, length, refl, sym, ap, ◌∙◌, subst, arith, length-append, append-nil}
-use Rattle.std.specs.Prelude.{filter, not, Option, None, Some, Err}
+use Rattle.std.specs.Prelude.{filter, not, Option, None, Some, Result, Ok, Err, IfOk}
 use Rattle.std.specs.Borrow.{Bor}
 use Rattle.std.specs.Option.{is_some, option_copied}
 use Rattle.std.proofs.lemmas.List.{length-map}
@@ -8,11 +8,13 @@ use Rattle.cn_types.specs.declared.row.Row.{Row}
 use Rattle.plan_model.specs.declared.expression.TypedExpr.{TypedExpr}
 use Rattle.plan_model.specs.declared.node.JoinKind.{JoinKind}
 use Rattle.plan_model.specs.JoinCounts.{HasBothSides}
-use Rattle.plan_model.specs.Joins.{Joining, pairs, left_alone, right_alone, joined}
-use Rattle.plan_model.specs.Outcomes.{PlanError, limited, row_limit}
+use Rattle.plan_model.specs.Joins.{Joining, pairs, left_alone, right_alone, joined, IsJoin}
+use Rattle.plan_model.specs.Outcomes.{PlanError, Bounded, limited, row_limit}
 use Rattle.plan_model.proofs.JoinMatchFacts.{joins_match}
+use Rattle.relation_eval.specs.declared.given.Given.{Given}
 use Rattle.relation_eval.specs.declared.matches.Matched.{Matched}
 use Rattle.relation_eval.specs.Firsts.{flagged}
+use Rattle.relation_eval.specs.Given.{outcome_of}
 use Rattle.relation_eval.specs.Joined.{widths_joining, rows_where, has_left_alone, has_right_alone, pairs_and_alone, unflagged, before_nulls, behind_nulls}
 use Rattle.relation_eval.specs.Matches.{FindsMatches, matches_some, is_matched}
 use Rattle.relation_eval.proofs.SetFacts.{limited-many}
@@ -84,3 +86,10 @@ pub semi-joined : (kind : JoinKind) (condition : Option TypedExpr) (left_width r
     → filter (matches_some condition rows) a ≡ joined kind (widths_joining condition left_width right_width) a b
 semi-joined kind condition left_width right_width a b rows k e =
     ap (λ (rs : List Row). filter (matches_some condition rs) a) e ∙ ap (λ x. joined x (widths_joining condition left_width right_width) a b) (sym k)
+
+-- ---- what a join allows
+
+pub join_allowed : {E : Type 0} (r : Result Given E) (kind : JoinKind) (joining : Joining) (a b : List Row) → IfOk r (λ given. outcome_of given ≡ limited (joined kind joining a b))
+    → IfOk r (λ given. Bounded (IsJoin kind joining a b) (outcome_of given))
+join_allowed (Ok given) kind joining a b h = (joined kind joining a b, (λ row. refl), h)
+join_allowed (Err e) kind joining a b h = h

@@ -1,5 +1,6 @@
 pub mod BucketFacts
 pub mod CallFacts
+pub mod EqualityFacts
 pub mod EvaluateFacts
 pub mod FirstFacts
 pub mod GroupFacts

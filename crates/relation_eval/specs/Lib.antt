@@ -1,6 +1,7 @@
 -- What the evaluation of relations is stated by, beside the outcomes that a relation allows.
 pub mod Calls
 pub mod Copies
+pub mod Equalities
 pub mod Firsts
 pub mod Given
 pub mod Grouped

@@ -1,17 +1,18 @@
 ghost use Rattle.std.specs.Prelude.{◌≡◌, ◌<◌, ◌*◌, ◌++◌, not, IfOk, IfSome, IsTrue, OnOk, All, length, map, filter};
 ghost use Rattle.std.specs.Option.{option_copied};
-ghost use Rattle.plan_model.specs.Joins.{joined};
-ghost use Rattle.plan_model.specs.Outcomes.{limited, row_limit};
+ghost use Rattle.plan_model.specs.Joins.{IsJoin, joined};
+ghost use Rattle.plan_model.specs.Outcomes.{Bounded, limited, row_limit};
 ghost use Rattle.expr_eval.specs.Dated.{HasLiteralsInRange, HasDatesInRange};
 ghost use Rattle.relation_eval.specs.Firsts.{flagged};
 ghost use Rattle.relation_eval.specs.Given.{rows_of, outcome_of};
 ghost use Rattle.relation_eval.specs.Joined.{null_row, widths_joining, rows_where, has_left_alone, has_right_alone, pairs_and_alone, unflagged, before_nulls, behind_nulls};
-ghost use Rattle.relation_eval.specs.Matches.{AreKeys, matches_some};
+ghost use Rattle.relation_eval.specs.Matches.{matches_some};
 
+use crate::equalities::key_columns;
 use crate::firsts::flagged_rows;
 use crate::given::{Given, HeldRows};
 use crate::limits::{ROW_LIMIT, limited_rows};
-use crate::matches::{Keys, Matched, find_matches, joined_row, match_flags};
+use crate::matches::{Matched, find_matches, joined_row, match_flags};
 use cn_base::{Copied, List, OutOfMemory};
 use cn_types::{Row, Value};
 use plan_model::{JoinKind, TypedExpr};
@@ -21,6 +22,24 @@ use std::alloc::Global;
 /// without a match beside nulls, and then the right ones. A semi and an anti join have the left rows with, and without, a match, which are
 /// moved where they are owned. It stops where there are too many pairs.
 pub fn join(
+    alloc: Global,
+    left: HeldRows,
+    right: HeldRows,
+    kind: JoinKind,
+    condition: Option<&TypedExpr>,
+    left_width: usize,
+    right_width: usize,
+) -> Result<Given, OutOfMemory>
+    requires literals { IfSome (option_copied condition) HasLiteralsInRange }
+    requires left_dates { All HasDatesInRange (rows_of left) }
+    requires right_dates { All HasDatesInRange (rows_of right) }
+    ensures allowed { IfOk result (λ given. Bounded (IsJoin kind (widths_joining (option_copied condition.entry) left_width right_width) (rows_of left) (rows_of right)) (outcome_of given)) }
+    ensures ordered { IfOk result (λ given. outcome_of given ≡ limited (joined kind (widths_joining (option_copied condition.entry) left_width right_width) (rows_of left) (rows_of right))) }
+{
+    joined_rows(alloc, left, right, kind, condition, left_width, right_width)
+}
+
+fn joined_rows(
     alloc: Global,
     left: HeldRows,
     right: HeldRows,
@@ -261,20 +280,4 @@ fn negated(alloc: Global, flags: &[bool]) -> Result<Vec<bool>, OutOfMemory>
     ensures { IfOk result (λ v. v.items ≡ map not flags.now) }
 {
     flags.iter().map(|flag| !*flag).collect(alloc)
-}
-
-/// Columns in which rows that match have the same values.
-fn key_columns(
-    alloc: Global,
-    left: &[Row],
-    right: &[Row],
-    condition: Option<&TypedExpr>,
-    left_width: usize,
-) -> Result<Keys, OutOfMemory>
-    ensures { IfOk result (λ keys. AreKeys (option_copied condition.entry) keys.left.items keys.right.items left.now right.now) }
-{
-    Ok(Keys {
-        left: Vec::new(alloc),
-        right: Vec::new(alloc),
-    })
 }

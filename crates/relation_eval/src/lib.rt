@@ -4,6 +4,7 @@
 mod aggregates;
 mod buckets;
 mod calls;
+mod equalities;
 mod evaluation;
 mod firsts;
 mod given;
