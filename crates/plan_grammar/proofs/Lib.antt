@@ -1,2 +1,12 @@
+pub mod AllEnds
+pub mod Ended
+pub mod Kept
+pub mod Leaving
+pub mod Phases
+pub mod Places
+pub mod PlainEnds
+pub mod Stacks
 pub mod Steps
+pub mod Viable
+pub mod Weighed
 pub mod WordFacts

@@ -1,7 +1,7 @@
 -- What one step of a reader says of derivations.
 use Rattle.std.proofs.Common.{◌≡◌, ℕ, List, [], ◌∷◌, ◌++◌, refl, sym, ap, subst, ◌∙◌, append_assoc, append-nil, drop}
 use Rattle.std.proofs.lemmas.Option.{same_Some}
-use Rattle.std.specs.Prelude.{Option, Some, None, unwrap_or, length}
+use Rattle.std.specs.Prelude.{Option, Some, None, unwrap_or}
 use Rattle.std.proofs.lemmas.List.{map-append}
 use Rattle.cn_types.specs.declared.value.DataType.{DataType}
 use Rattle.plan_tokens.specs.declared.token.Token.{Token}
@@ -14,7 +14,7 @@ use Rattle.std.specs.Prelude.{Result, Ok, Err}
 use Rattle.plan_grammar.specs.declared.parsing.GrammarFault.{GrammarFault}
 use Rattle.plan_grammar.specs.declared.parsing.GrammarFault.TheVariants.{Unexpected, OutOfMemory}
 use Rattle.plan_grammar.specs.Grammar.{rule}
-use Rattle.plan_grammar.specs.Derivation.{Derives, over, does, goes, takes, Reads, begins, has_done, has_gone, has_taken, IsPipeline, OneDerivation, wanted_of, behind_use, after_doing, deed_of, kept, head_of, next_of, no_columns, whole, Config, Outcome, More, Over, Refused, by_left, by_rule, by_deed, at_end, by_symbols, step_of, IsUnexpected, only_tokens, place_of}
+use Rattle.plan_grammar.specs.Derivation.{Derives, over, does, goes, takes, Reads, begins, has_done, has_gone, has_taken, IsPipeline, OneDerivation, wanted_of, behind_use, after_doing, deed_of, kept, head_of, next_of, no_columns, whole, Config, Outcome, More, Over, Refused, by_left, by_rule, by_deed, at_end, by_symbols, step_of, GoesOnWith, only_tokens}
 use Rattle.plan_tokens.specs.declared.token.Placed.{Placed}
 use Rattle.plan_tokens.specs.declared.token.Token.TheVariants.{End}
 use Rattle.plan_tokens.specs.Tokens.{tokens_of}
@@ -285,21 +285,13 @@ symbols_refused config [] more deeds e same d = end_refused config.columns confi
 symbols_refused config (one ∷ symbols) more deeds e same d =
     deed_refused config.columns one symbols config (deed_of one) more deeds refl refl e same (first config.columns one symbols more deeds d)
 
--- a reader that refuses stands at the first token at which no continuation is in the grammar
-pub is_refused : (text : List ℕ) (config : Config) (at : ℕ) → HasRead text config → Refused ≡ step_of config → at ≡ place_of config.left (length text) → IsUnexpected text at
+-- where a reader refuses, no pipeline goes on
+pub none_goes_on : (text : List ℕ) (config : Config) (held : HasRead text config) → Refused ≡ step_of config → ¬ GoesOnWith (only_tokens held.before) (head_of (only_tokens config.left))
 unfolding step_of
-is_refused text config at held e place =
-    record {
-      before = held.before;
-      left = config.left;
-      deeds = config.deeds;
-      columns = config.columns;
-      symbols = config.symbols;
-      tokens_are = held.tokens_are;
-      at_is = place;
-      read = held.read;
-      none = λ more any same d. (let there = read_forced held.read more any same d in symbols_refused config config.symbols more there.0 (sym e) same there.1);
-    }
+none_goes_on text config held e found =
+    let more = found.0 in
+    let same : head_of more ≡ head_of (only_tokens config.left) = found.1.1.0 in
+    let there = read_forced held.read more found.1.0 same found.1.1.1 in symbols_refused config config.symbols more there.0 (sym e) same there.1
 
 fault_place : {A : Type 0} → Result A GrammarFault → ℕ
 fault_place (Ok x) = 0

@@ -26,9 +26,10 @@ no_columns = record { kinds = []; cells = 0 }
 abbrev pub wanted_of : Columns → Option DataType
 wanted_of columns = slice_get columns.kinds columns.cells
 
+-- the columns behind a token that is taken: one cell more, and no more than there are columns
 abbrev pub behind_use : Use → Columns → Columns
 behind_use uses.NewColumns columns = no_columns
-behind_use (uses.Cell cell) columns = record columns { cells = min (columns.cells + 1) (2 ^ 64 - 1) }
+behind_use (uses.Cell cell) columns = record columns { cells = min (columns.cells + 1) (length columns.kinds) }
 behind_use other columns = columns
 
 -- the columns after a deed that takes no token
@@ -81,6 +82,14 @@ whole = symbol.Pipeline Whole ∷ []
 abbrev pub IsPipeline : List Token → List Deed → Type 0
 IsPipeline tokens deeds = Derives no_columns whole tokens deeds
 
+-- a pipeline begins with these tokens
+abbrev pub BeginsPipeline : List Token → Type 0
+BeginsPipeline before = (more : List Token) × ((deeds : List Deed) × IsPipeline (before ++ more) deeds)
+
+-- a pipeline begins with these tokens and goes on with this one; without one, it is over
+abbrev pub GoesOnWith : List Token → Option Token → Type 0
+GoesOnWith before next = (more : List Token) × ((deeds : List Deed) × ((head_of more ≡ next) × IsPipeline (before ++ more) deeds))
+
 -- tokens are a pipeline by one list of deeds
 abbrev pub OneDerivation : Type 0
 OneDerivation = (tokens : List Token) (one other : List Deed) → IsPipeline tokens one → IsPipeline tokens other → one ≡ other
@@ -108,18 +117,22 @@ abbrev pub place_of : List Placed → ℕ → ℕ
 place_of [] length = length
 place_of (one ∷ placed) length = one.at
 
--- The token at a place is the first at which no continuation is in the grammar: those before it have been read, and no tokens that go on with it
--- are a pipeline.
+-- The token at a place is the first at which no continuation is in the grammar: a pipeline begins with the tokens before it, and none goes on
+-- with it; at the end of the text, none is over there.
 pub record IsUnexpected (text : List ℕ) (at : ℕ) : Type 0 where
   pub before : List Placed
   pub left : List Placed
-  pub deeds : List Deed
-  pub columns : Columns
-  pub symbols : List Symbol
   pub tokens_are : tokens_of text ≡ before ++ left
   pub at_is : at ≡ place_of left (length text)
-  pub read : Reads (only_tokens before) deeds columns symbols (only_tokens left)
-  pub none : (more : List Token) (any : List Deed) → head_of more ≡ head_of (only_tokens left) → ¬ IsPipeline (only_tokens before ++ more) any
+  pub begun : BeginsPipeline (only_tokens before)
+  pub none : ¬ GoesOnWith (only_tokens before) (head_of (only_tokens left))
+
+-- a text has at most one such place, and then it is no pipeline
+abbrev pub PlacesAreOne : Type 0
+PlacesAreOne = (text : List ℕ) (one other : ℕ) → IsUnexpected text one → IsUnexpected text other → one ≡ other
+
+abbrev pub PlacesRefuse : Type 0
+PlacesRefuse = (text : List ℕ) (at : ℕ) (deeds : List Deed) → IsUnexpected text at → ¬ IsPipeline (only_tokens (tokens_of text)) deeds
 
 -- ---- one step of a reader
 

@@ -1,3 +1,9 @@
 pub mod Derivation
+pub mod ExpressionRules
 pub mod Grammar
+pub mod PipelineRules
+pub mod Productions
+pub mod StepRules
 pub mod Tests
+pub mod UnitRules
+pub mod ValuesRules

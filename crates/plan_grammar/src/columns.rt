@@ -33,7 +33,7 @@ impl Columns {
                 self.kinds = List::new(alloc);
                 self.cells = 0;
             }
-            Use::Cell(_) => self.cells = self.cells.saturating_add(1),
+            Use::Cell(_) => self.cells = self.cells.saturating_add(1).min(self.kinds.len()),
             _ => {}
         }
     }

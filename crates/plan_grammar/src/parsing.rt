@@ -1,7 +1,7 @@
 ghost use Rattle.std.specs.Prelude.{◌≡◌, ◌≢◌, ℕ, List as AnyList, IfOk, IfErr};
 ghost use Rattle.plan_tokens.specs.Tokens.{tokens_of};
 ghost use Rattle.plan_grammar.specs.declared.parsing.GrammarFault.TheVariants.{OutOfMemory as no_memory};
-ghost use Rattle.plan_grammar.specs.Derivation.{IsPipeline, IsUnexpected, only_tokens, OneDerivation};
+ghost use Rattle.plan_grammar.specs.Derivation.{IsPipeline, IsUnexpected, only_tokens, OneDerivation, PlacesAreOne, PlacesRefuse};
 
 use crate::reader::{Reader, Turn};
 use crate::symbol::Deed;
@@ -34,7 +34,7 @@ pub fn derivation(alloc: Global, text: &str) -> Result<List<Deed>, GrammarFault>
     ensures unexpected { (at : ℕ) → result ≡ Err (GrammarFault.Unexpected at) → IsUnexpected text.now at }
 {
     let mut reader = Reader::of(alloc, text)?;
-    for _ in 0..u64::MAX {
+    loop {
         match reader.step(alloc)? {
             Turn::More => {}
             Turn::Over => return Ok(reader.into_deeds()),
@@ -43,8 +43,13 @@ pub fn derivation(alloc: Global, text: &str) -> Result<List<Deed>, GrammarFault>
             }),
         }
     }
-    Err(GrammarFault::OutOfMemory)
 }
+
+/// Law: a text has at most one place at which no continuation is in the grammar, and is no pipeline where it has one.
+pub fn places_are_exact()
+    ensures one { PlacesAreOne }
+    ensures refused { PlacesRefuse }
+{}
 
 /// Law: the tokens of a text have one derivation.
 pub fn a_text_has_one_derivation()
