@@ -1,4 +1,5 @@
 pub mod Drafts
+pub mod Heights
 pub mod Names
 pub mod Piles
 pub mod Pipelines

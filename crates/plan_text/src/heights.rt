@@ -1,151 +1,340 @@
+ghost use Rattle.std.specs.Prelude.{◌≡◌, [], OnOk, IfOk};
+ghost use Rattle.expression_messages.specs.Depths.{largest as greatest, told};
+ghost use Rattle.plan_messages.specs.Depths.{plan_depth};
+ghost use Rattle.plan_text.specs.Drafts.{plan_of_deeds as plan_built};
+ghost use Rattle.plan_text.specs.Heights as heights;
+
+use crate::pile::Pile;
 use cn_base::{List, OutOfMemory};
 use plan_grammar::{Action, Deed, Part, StepAction, UnitAction, Use};
 use std::alloc::Global;
+use std::mem;
 
-/// How deep messages are nested in what is being built: a bound from below, so that nothing is built that is too deep to be let go safely.
+/// How deep messages are nested in what is built of deeds. It is known before anything is built, so nothing is built that is too deep.
 #[derive(Debug, Drop)]
 pub struct Heights {
-    expressions: List<u32>,
-    /// The greatest height among the expressions before the arguments of each open call, and how many these are.
-    marks: List<usize>,
-    /// The greatest height among the expressions that were put aside.
-    aside: u32,
-    relations: List<u32>,
+    pub expressions: Pile<u32>,
+    /// The expressions before the arguments of each open call.
+    pub outer: Pile<List<u32>>,
+    /// The greatest of the keys.
+    pub keys: u32,
+    /// The greatest of the aliases.
+    pub aliases: u32,
+    /// The greatest of the sort orders.
+    pub orders: u32,
+    /// 1 where there are new names.
+    pub renames: u32,
+    pub relations: Pile<u32>,
+    /// Whether a write was asked for.
+    pub written: bool,
+}
+
+/// The greatest of these; 0 of none.
+fn largest(heights: &[u32]) -> u32
+    ensures { result ≡ greatest heights.now }
+{
+    let mut deepest = 0u32;
+    for height in heights {
+        deepest = deepest.max(*height);
+    }
+    deepest
 }
 
 impl Heights {
     /// Nothing. It takes no memory.
-    pub fn new(alloc: Global) -> Heights {
+    fn new(alloc: Global) -> Heights
+        ensures { result ≡ heights.no_heights }
+    {
         Heights {
-            expressions: List::new(alloc),
-            marks: List::new(alloc),
-            aside: 0,
-            relations: List::new(alloc),
+            expressions: Pile::new(alloc),
+            outer: Pile::new(alloc),
+            keys: 0,
+            aliases: 0,
+            orders: 0,
+            renames: 0,
+            relations: Pile::new(alloc),
+            written: false,
         }
     }
 
-    fn pop_expression(&mut self) -> u32 {
-        self.expressions.pop().unwrap_or(0)
+    fn put(&mut self, height: u32) -> Result<(), OutOfMemory>
+        ensures { OnOk result (self.new ≡ heights.with_height height self.old) }
+    {
+        self.expressions.put(height)
     }
 
-    fn pop_relation(&mut self) -> u32 {
-        self.relations.pop().unwrap_or(0)
+    fn take_last(&mut self) -> u32
+        ensures last { result ≡ heights.last_height self.old }
+        ensures rest { self.new ≡ heights.without_last self.old }
+    {
+        self.expressions.take(2)
     }
 
-    fn put_expression(&mut self, height: u32) -> Result<u32, OutOfMemory> {
-        self.expressions.push(height)?;
-        Ok(height)
+    fn take_all(&mut self, alloc: Global) -> u32
+        ensures largest { result ≡ heights.largest_height self.old }
+        ensures none { self.new ≡ heights.without_all self.old }
+    {
+        let all = self.expressions.take_all(alloc);
+        largest(all.as_slice())
     }
 
-    fn put_relation(&mut self, height: u32) -> Result<u32, OutOfMemory> {
-        self.relations.push(height)?;
-        Ok(height)
+    fn over_last(&mut self) -> Result<(), OutOfMemory>
+        ensures { OnOk result (self.new ≡ heights.over_last self.old) }
+    {
+        let operand = self.take_last();
+        self.put(operand.saturating_add(2))
     }
 
-    /// Takes all expressions down to a number of them.
-    fn take_down_to(&mut self, count: usize) -> u32 {
-        let mut greatest = 0u32;
-        let surplus = self.expressions.len().saturating_sub(count);
-        for _ in 0..surplus {
-            greatest = greatest.max(self.pop_expression());
-        }
-        greatest
+    fn over_last_two(&mut self) -> Result<(), OutOfMemory>
+        ensures { OnOk result (self.new ≡ heights.over_last_two self.old) }
+    {
+        let right = self.take_last();
+        let left = self.take_last();
+        self.put(left.max(right).saturating_add(2))
     }
 
-    fn step(&mut self, step: StepAction) -> Result<u32, OutOfMemory> {
-        let expressions = self.take_down_to(0).max(self.aside);
-        self.aside = 0;
-        let height = match step {
-            StepAction::Range => 0,
-            StepAction::Read => 0,
-            StepAction::Values => 0,
-            StepAction::Write => self.pop_relation(),
-            StepAction::Insert => self.pop_relation(),
-            StepAction::JoinOn => self.pop_relation().max(self.pop_relation()),
-            StepAction::JoinUsing => self.pop_relation().max(self.pop_relation()),
-            StepAction::JoinAll => self.pop_relation().max(self.pop_relation()),
-            StepAction::SetOperation => self.pop_relation().max(self.pop_relation()),
-            StepAction::PlanId => return Ok(0),
-            _ => self.pop_relation(),
-        };
-        self.put_relation(height.max(expressions).saturating_add(2))
+    fn over_all(&mut self, alloc: Global) -> Result<(), OutOfMemory>
+        ensures { OnOk result (self.new ≡ heights.over_all self.old) }
+    {
+        let arguments = self.take_all(alloc);
+        self.expressions = Pile::of(self.outer.take(List::new(alloc)));
+        self.put(arguments.saturating_add(2))
     }
 
-    fn unit(&mut self, action: UnitAction) -> Result<u32, OutOfMemory> {
+    fn mark(&mut self, alloc: Global) -> Result<(), OutOfMemory>
+        ensures { OnOk result (self.new ≡ heights.unit_height UnitAction.Mark self.old) }
+    {
+        let before = self.expressions.take_all(alloc);
+        self.outer.put(before)
+    }
+
+    fn unit(&mut self, alloc: Global, action: UnitAction) -> Result<(), OutOfMemory>
+        ensures { OnOk result (self.new ≡ heights.unit_height action self.old) }
+    {
         match action {
-            UnitAction::Identifier => Ok(0),
+            UnitAction::Identifier => Ok(()),
+            UnitAction::True => self.put(2),
+            UnitAction::False => self.put(2),
+            UnitAction::Null => self.put(4),
+            UnitAction::Attribute => self.put(2),
+            UnitAction::AttributeOfPlan => self.put(2),
+            UnitAction::Star => self.put(2),
+            UnitAction::StarOf => self.put(2),
             UnitAction::Cast => {
-                let operand = self.pop_expression();
-                self.put_expression(operand.saturating_add(2))
+                let operand = self.take_last();
+                self.put(operand.max(2).saturating_add(2))
             }
-            UnitAction::Alias => {
-                let operand = self.pop_expression();
-                self.put_expression(operand.saturating_add(2))
-            }
-            UnitAction::Mark => {
-                self.marks.push(self.expressions.len())?;
-                Ok(0)
-            }
-            UnitAction::Call => self.call(),
-            UnitAction::CallDistinct => self.call(),
-            _ => self.put_expression(2),
+            UnitAction::Alias => self.over_last(),
+            UnitAction::Mark => self.mark(alloc),
+            UnitAction::Call => self.over_all(alloc),
+            UnitAction::CallDistinct => self.over_all(alloc),
         }
     }
 
-    fn call(&mut self) -> Result<u32, OutOfMemory> {
-        let count = self.marks.pop().unwrap_or(0);
-        let arguments = self.take_down_to(count);
-        self.put_expression(arguments.saturating_add(2))
-    }
-
-    fn part(&mut self, part: Part) -> Result<u32, OutOfMemory> {
+    fn part(&mut self, alloc: Global, part: Part)
+        ensures { self.new ≡ heights.part_height part self.old }
+    {
         match part {
-            Part::Renaming => Ok(0),
-            Part::GroupKeys => {
-                self.aside = self.aside.max(self.take_down_to(0));
-                Ok(0)
+            Part::Renaming => self.renames = 1,
+            Part::GroupKeys => self.keys = self.take_all(alloc),
+            Part::Assign => {
+                let height = self.take_last().saturating_add(1);
+                self.aliases = self.aliases.max(height);
             }
-            Part::Assign => self.put_aside(),
-            Part::Order => self.put_aside(),
+            Part::Order => {
+                let height = self.take_last().saturating_add(1);
+                self.orders = self.orders.max(height);
+            }
         }
     }
 
-    fn put_aside(&mut self) -> Result<u32, OutOfMemory> {
-        let height = self.pop_expression().saturating_add(1);
-        self.aside = self.aside.max(height);
-        Ok(height)
+    fn put_relation(&mut self, height: u32) -> Result<(), OutOfMemory>
+        ensures { OnOk result (self.new ≡ heights.with_relation_height height self.old) }
+    {
+        self.relations.put(height)
     }
 
-    /// Goes on with a deed, and tells how deep what it makes is.
-    pub fn go_on(&mut self, deed: &Deed) -> Result<u32, OutOfMemory> {
+    fn over_input(&mut self, other: u32) -> Result<(), OutOfMemory>
+        ensures { OnOk result (self.new ≡ heights.over_input other self.old) }
+    {
+        let input = self.relations.take(2);
+        self.relations.put(input.max(other).saturating_add(2))
+    }
+
+    fn over_inputs(&mut self, other: u32) -> Result<(), OutOfMemory>
+        ensures { OnOk result (self.new ≡ heights.over_inputs other self.old) }
+    {
+        let right = self.relations.take(2);
+        let left = self.relations.take(2);
+        self.relations
+            .put(left.max(right).max(other).saturating_add(2))
+    }
+
+    fn set_plan_id(&mut self) -> Result<(), OutOfMemory>
+        ensures { OnOk result (self.new ≡ heights.step_height StepAction.PlanId self.old) }
+    {
+        let height = self.relations.take(2);
+        self.relations.put(height.max(2))
+    }
+
+    fn filter(&mut self) -> Result<(), OutOfMemory>
+        ensures { OnOk result (self.new ≡ heights.step_height StepAction.Filter self.old) }
+    {
+        let condition = self.take_last();
+        self.over_input(condition)
+    }
+
+    fn project(&mut self, alloc: Global) -> Result<(), OutOfMemory>
+        ensures { OnOk result (self.new ≡ heights.step_height StepAction.Project self.old) }
+    {
+        let expressions = self.take_all(alloc);
+        self.over_input(expressions)
+    }
+
+    fn with_columns(&mut self) -> Result<(), OutOfMemory>
+        ensures { OnOk result (self.new ≡ heights.step_height StepAction.WithColumns self.old) }
+    {
+        let aliases = mem::replace(&mut self.aliases, 0);
+        self.over_input(aliases)
+    }
+
+    fn rename(&mut self) -> Result<(), OutOfMemory>
+        ensures { OnOk result (self.new ≡ heights.step_height StepAction.Rename self.old) }
+    {
+        let renames = mem::replace(&mut self.renames, 0);
+        self.over_input(renames)
+    }
+
+    fn sort(&mut self) -> Result<(), OutOfMemory>
+        ensures { OnOk result (self.new ≡ heights.step_height StepAction.Sort self.old) }
+    {
+        let orders = mem::replace(&mut self.orders, 0);
+        self.over_input(orders)
+    }
+
+    fn aggregate(&mut self, alloc: Global) -> Result<(), OutOfMemory>
+        ensures { OnOk result (self.new ≡ heights.step_height StepAction.Aggregate self.old) }
+    {
+        let keys = mem::replace(&mut self.keys, 0);
+        let aggregates = self.take_all(alloc);
+        self.over_input(keys.max(aggregates))
+    }
+
+    fn join_on(&mut self) -> Result<(), OutOfMemory>
+        ensures { OnOk result (self.new ≡ heights.step_height StepAction.JoinOn self.old) }
+    {
+        let condition = self.take_last();
+        self.over_inputs(condition)
+    }
+
+    fn write(&mut self) -> Result<(), OutOfMemory>
+        ensures { OnOk result (self.new ≡ heights.step_height StepAction.Write self.old) }
+    {
+        self.written = true;
+        Ok(())
+    }
+
+    fn step(&mut self, alloc: Global, step: StepAction) -> Result<(), OutOfMemory>
+        ensures { OnOk result (self.new ≡ heights.step_height step self.old) }
+    {
+        match step {
+            StepAction::Range => self.put_relation(2),
+            StepAction::Read => self.put_relation(3),
+            StepAction::Values => self.put_relation(2),
+            StepAction::Filter => self.filter(),
+            StepAction::Project => self.project(alloc),
+            StepAction::WithColumns => self.with_columns(),
+            StepAction::Drop => self.over_input(0),
+            StepAction::Rename => self.rename(),
+            StepAction::ToDf => self.over_input(0),
+            StepAction::SubqueryAlias => self.over_input(0),
+            StepAction::Sort => self.sort(),
+            StepAction::Limit => self.over_input(0),
+            StepAction::Offset => self.over_input(0),
+            StepAction::Aggregate => self.aggregate(alloc),
+            StepAction::SetOperation => self.over_inputs(0),
+            StepAction::PlanId => self.set_plan_id(),
+            StepAction::DeduplicateOn => self.over_input(0),
+            StepAction::Deduplicate => self.over_input(0),
+            StepAction::JoinOn => self.join_on(),
+            StepAction::JoinUsing => self.over_inputs(0),
+            StepAction::JoinAll => self.over_inputs(0),
+            StepAction::Write => self.write(),
+            StepAction::Insert => self.write(),
+        }
+    }
+
+    fn take(&mut self, used: Use) -> Result<(), OutOfMemory>
+        ensures { OnOk result (self.new ≡ heights.taken_height used self.old) }
+    {
+        match used {
+            Use::IntegerLiteral => self.put(2),
+            Use::LongLiteral => self.put(2),
+            Use::NegativeIntegerLiteral => self.put(2),
+            Use::NegativeLongLiteral => self.put(2),
+            Use::Text => self.put(2),
+            Use::Date => self.put(2),
+            _ => Ok(()),
+        }
+    }
+
+    fn act(&mut self, alloc: Global, action: Action) -> Result<(), OutOfMemory>
+        ensures { OnOk result (self.new ≡ heights.action_height action self.old) }
+    {
+        match action {
+            Action::Binary(_) => self.over_last_two(),
+            Action::Unary(_) => self.over_last(),
+            Action::Unit(action) => self.unit(alloc, action),
+            Action::Part(part) => {
+                self.part(alloc, part);
+                Ok(())
+            }
+            Action::Step(step) => self.step(alloc, step),
+            Action::Choice(_) => Ok(()),
+            Action::Kind(_) => Ok(()),
+        }
+    }
+
+    /// Goes on with a deed.
+    fn go_on(&mut self, alloc: Global, deed: &Deed) -> Result<(), OutOfMemory>
+        ensures { OnOk result (self.new ≡ heights.deed_height deed.now self.old) }
+    {
         match deed {
-            Deed::Take(used, _) => match used {
-                Use::IntegerLiteral
-                | Use::LongLiteral
-                | Use::NegativeIntegerLiteral
-                | Use::NegativeLongLiteral
-                | Use::Text
-                | Use::Date => self.put_expression(2),
-                _ => Ok(0),
-            },
-            Deed::Act(action) => match action {
-                Action::Binary(_) => {
-                    let right = self.pop_expression();
-                    let left = self.pop_expression();
-                    self.put_expression(left.max(right).saturating_add(2))
-                }
-                Action::Unary(_) => {
-                    let operand = self.pop_expression();
-                    self.put_expression(operand.saturating_add(2))
-                }
-                Action::Unit(action) => self.unit(*action),
-                Action::Part(part) => self.part(*part),
-                Action::Step(step) => self.step(*step),
-                Action::Choice(_) => Ok(0),
-                Action::Kind(_) => Ok(0),
-            },
-            Deed::Column(_) => Ok(0),
-            Deed::Row => Ok(0),
+            Deed::Take(used, _) => self.take(*used),
+            Deed::Act(action) => self.act(alloc, *action),
+            Deed::Column(_) => Ok(()),
+            Deed::Row => Ok(()),
         }
     }
+
+    /// How deep messages are nested in the plan, its own among them.
+    fn plan(&mut self) -> u32
+        ensures { result ≡ heights.plan_height self.old }
+    {
+        let root = self.relations.take(2);
+        if self.written {
+            return root.max(1).saturating_add(3);
+        }
+        root.saturating_add(1)
+    }
+}
+
+/// What deeds make, measured.
+fn heights_of(alloc: Global, deeds: &[Deed]) -> Result<Heights, OutOfMemory>
+    ensures { IfOk result (λ found. found ≡ heights.all_heights deeds.now heights.no_heights) }
+{
+    let mut found = Heights::new(alloc);
+    for deed in deeds {
+        found.go_on(alloc, deed)?;
+    }
+    Ok(found)
+}
+
+/// How deep messages are nested in the plan of deeds, its own message among them; 2^32 - 1 where there are more.
+#[tactic(auto, using(crate::proofs::Measured::plan_measured))]
+pub fn plan_height(alloc: Global, deeds: &[Deed]) -> Result<u32, OutOfMemory>
+    ensures { IfOk result (λ height. height ≡ told (plan_depth (plan_built deeds.now))) }
+{
+    let mut heights = heights_of(alloc, deeds)?;
+    Ok(heights.plan())
 }

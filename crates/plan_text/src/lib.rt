@@ -10,6 +10,8 @@ mod parts;
 mod pile;
 mod steps;
 mod taken;
+#[cfg(test)]
+mod tests;
 mod units;
 mod values;
 

@@ -27,14 +27,14 @@ fn push_doubled_character(out: &mut String, character: char) -> Result<(), OutOf
 
 /// A name as a part of an identifier: as it is where it is a word, and else in backquotes.
 #[tactic(auto, unfolding(crate::specs::Names::part_of))]
-pub fn part_of(alloc: Global, name: &str) -> Result<Text, OutOfMemory>
-    ensures { IfOk result (λ t. t ≡ names.part_of name.now) }
+pub fn part_of(alloc: Global, name: Text) -> Result<Text, OutOfMemory>
+    ensures { IfOk result (λ t. t ≡ names.part_of name) }
 {
-    if is_word(name.as_bytes()) {
-        return Text::of(alloc, name);
+    if is_word(name.as_str().as_bytes()) {
+        return Ok(name);
     }
     let mut out = String::from_str(alloc, "`")?;
-    push_doubled(&mut out, name)?;
+    push_doubled(&mut out, name.as_str())?;
     out.push_str("`")?;
     Ok(Text::from_string(out))
 }

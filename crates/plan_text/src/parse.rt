@@ -1,16 +1,14 @@
-ghost use Rattle.std.specs.Prelude.{◌≡◌, ◌≢◌, ◌≤◌, ◌<◌, ℕ, List as AnyList, length, IfOk, IfSome};
+ghost use Rattle.std.specs.Prelude.{◌≡◌, ◌≢◌, ◌≤◌, ◌<◌, ℕ, length, IfOk};
 ghost use Rattle.proto_fields.specs.Sizes.{size_of};
-ghost use Rattle.plan_tokens.specs.Tokens.{tokens_of};
-ghost use Rattle.plan_grammar.specs.declared.symbol.Deed.{Deed as AnyDeed};
-ghost use Rattle.plan_grammar.specs.Derivation.{IsPipeline, IsUnexpected, only_tokens};
+ghost use Rattle.plan_grammar.specs.Derivation.{IsUnexpected};
 ghost use Rattle.plan_messages.specs.Depths.{plan_depth};
 ghost use Rattle.plan_messages.specs.Known.{IsKnownPlan};
 ghost use Rattle.plan_messages.specs.Spelled.{plan_fields};
 ghost use Rattle.plan_text.specs.Drafts as drafts;
-ghost use Rattle.plan_text.specs.Pipelines.{ATextIsOnePlan, IsPlanOf, IsTooLong};
+ghost use Rattle.plan_text.specs.Pipelines.{ATextIsOnePlan, IsPlanOf, IsTooDeep, IsTooLong};
 
 use crate::draft::Draft;
-use crate::heights::Heights;
+use crate::heights::plan_height;
 use crate::makers::no_relation;
 use cn_base::OutOfMemory;
 use plan_grammar::{Deed, GrammarFault, derivation};
@@ -54,19 +52,15 @@ impl From<OutOfMemory> for TextFault {
     }
 }
 
-/// What is built of deeds; None where it would be nested too deep.
-fn draft_of(alloc: Global, deeds: &[Deed]) -> Result<Option<Draft>, OutOfMemory>
-    ensures { IfOk result (λ found. IfSome found (λ draft. draft ≡ drafts.all_built deeds.now drafts.no_draft)) }
+/// What is built of deeds.
+fn draft_of(alloc: Global, deeds: &[Deed]) -> Result<Draft, OutOfMemory>
+    ensures { IfOk result (λ draft. draft ≡ drafts.all_built deeds.now drafts.no_draft) }
 {
-    let mut heights = Heights::new(alloc);
     let mut draft = Draft::new(alloc);
     for deed in deeds {
-        if heights.go_on(deed)? > DEEPEST {
-            return Ok(None);
-        }
         draft.build(alloc, deed)?;
     }
-    Ok(Some(draft))
+    Ok(draft)
 }
 
 /// The plan of a draft.
@@ -90,19 +84,15 @@ fn plan_of_draft(draft: Draft) -> Plan
     }
 }
 
-/// Whether a plan may be read of a text.
-fn allowed(plan: Plan, length: u64) -> Result<Plan, TextFault>
+/// The plan of a text, unless its spelling is too long.
+fn allowed(plan: Plan) -> Result<Plan, TextFault>
     ensures same { IfOk result (λ allowed. allowed ≡ plan) }
-    ensures depth { IfOk result (λ allowed. plan_depth allowed ≤ 199) }
     ensures known { IfOk result IsKnownPlan }
     ensures spelled { IfOk result (λ allowed. size_of (plan_fields allowed) ≤ 67000000) }
     ensures too_long { (limit : ℕ) → result ≡ Err (TextFault.TooLong limit) → (limit ≡ 67000000) × (67000000 < size_of (plan_fields plan)) }
-    ensures too_deep { (at : ℕ) → result ≡ Err (TextFault.TooDeep at) → (at ≡ length) × (199 < plan_depth plan) }
+    ensures too_deep { (at : ℕ) → result ≢ Err (TextFault.TooDeep at) }
     ensures unexpected { (at : ℕ) → result ≢ Err (TextFault.Unexpected at) }
 {
-    if plan.depth() > DEEPEST {
-        return Err(TextFault::TooDeep { at: length });
-    }
     // No production makes what has no spelling.
     if !is_known_plan(&plan) {
         return Err(TextFault::OutOfMemory);
@@ -121,14 +111,15 @@ fn plan_of_deeds(alloc: Global, deeds: &[Deed], length: u64) -> Result<Plan, Tex
     ensures depth { IfOk result (λ plan. plan_depth plan ≤ 199) }
     ensures known { IfOk result IsKnownPlan }
     ensures spelled { IfOk result (λ plan. size_of (plan_fields plan) ≤ 67000000) }
-    ensures too_long { (limit : ℕ) → result ≡ Err (TextFault.TooLong limit) → (limit ≡ 67000000) × (67000000 < size_of (plan_fields (drafts.plan_of_deeds deeds.now))) }
-    ensures too_deep { (at : ℕ) → result ≡ Err (TextFault.TooDeep at) → at ≡ length }
+    ensures too_long { (limit : ℕ) → result ≡ Err (TextFault.TooLong limit) → (limit ≡ 67000000) × ((67000000 < size_of (plan_fields (drafts.plan_of_deeds deeds.now))) × (plan_depth (drafts.plan_of_deeds deeds.now) ≤ 199)) }
+    ensures too_deep { (at : ℕ) → result ≡ Err (TextFault.TooDeep at) → (at ≡ length) × (199 < plan_depth (drafts.plan_of_deeds deeds.now)) }
     ensures unexpected { (at : ℕ) → result ≢ Err (TextFault.Unexpected at) }
 {
-    match draft_of(alloc, deeds)? {
-        Some(draft) => allowed(plan_of_draft(draft), length),
-        None => Err(TextFault::TooDeep { at: length }),
+    if plan_height(alloc, deeds)? > DEEPEST {
+        return Err(TextFault::TooDeep { at: length });
     }
+    let draft = draft_of(alloc, deeds)?;
+    allowed(plan_of_draft(draft))
 }
 
 /// Reads a pipeline text as a plan.
@@ -144,7 +135,7 @@ pub fn parse_pipeline(alloc: Global, text: &str) -> Result<Plan, TextFault>
     ensures spelled { IfOk result (λ plan. size_of (plan_fields plan) ≤ 67000000) }
     ensures too_long { (limit : ℕ) → result ≡ Err (TextFault.TooLong limit) → IsTooLong text.now limit }
     ensures unexpected { (at : ℕ) → result ≡ Err (TextFault.Unexpected at) → (length text.now ≤ 1048576) × IsUnexpected text.now at }
-    ensures too_deep { (at : ℕ) → result ≡ Err (TextFault.TooDeep at) → (at ≡ length text.now) × ((deeds : AnyList AnyDeed) × IsPipeline (only_tokens (tokens_of text.now)) deeds) }
+    ensures too_deep { (at : ℕ) → result ≡ Err (TextFault.TooDeep at) → (at ≡ length text.now) × IsTooDeep text.now }
 {
     if text.len() > LONGEST_TEXT {
         return Err(TextFault::TooLong {

@@ -47,7 +47,7 @@ impl Draft {
         ensures { OnOk result (self.new ≡ drafts.read_done self.old) }
     {
         let name = self.take_name(alloc);
-        let identifier = part_of(alloc, name.as_str())?;
+        let identifier = part_of(alloc, name)?;
         self.put_relation(RelationMember::Read(Read {
             named_table: Some(NamedTable {
                 unparsed_identifier: identifier,
@@ -238,7 +238,7 @@ impl Draft {
         ensures { OnOk result (self.new ≡ drafts.with_write method self.old) }
     {
         let name = self.take_name(alloc);
-        let table = part_of(alloc, name.as_str())?;
+        let table = part_of(alloc, name)?;
         let mode = self.choices.take(0);
         self.write = Some(Write {
             table,

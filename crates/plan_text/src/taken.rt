@@ -90,7 +90,7 @@ impl Draft {
         ensures { OnOk result (self.new ≡ drafts.part_put token.now self.old) }
     {
         let name = name_in(alloc, token)?;
-        let part = part_of(alloc, name.as_str())?;
+        let part = part_of(alloc, name)?;
         let mut identifier = self.take_name(alloc);
         identifier.append(".")?;
         identifier.append(part.as_str())?;

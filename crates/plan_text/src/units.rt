@@ -94,7 +94,7 @@ impl Draft {
     {
         let name = self.take_name(alloc);
         let number = self.numbers.take(0);
-        let identifier = part_of(alloc, name.as_str())?;
+        let identifier = part_of(alloc, name)?;
         self.expressions.put(attribute(identifier, Some(number)))
     }
 
@@ -102,7 +102,7 @@ impl Draft {
         ensures { OnOk result (self.new ≡ drafts.with_identifier self.old) }
     {
         let name = self.take_name(alloc);
-        let identifier = part_of(alloc, name.as_str())?;
+        let identifier = part_of(alloc, name)?;
         self.names.put(identifier)
     }
 

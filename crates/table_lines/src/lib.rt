@@ -5,5 +5,7 @@ mod cells;
 mod columns;
 mod lines;
 mod pieces;
+#[cfg(test)]
+mod tests;
 
 pub use lines::{LinedTable, TableLines};
