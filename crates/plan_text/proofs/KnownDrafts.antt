@@ -1,5 +1,5 @@
 -- No deed makes what is outside the profile, so a plan that is built has a spelling.
-use Rattle.std.proofs.Common.{◌≡◌, ℕ, Bool, true, false, List, [], ◌∷◌, ◌++◌, refl, sym, ap, ◌∙◌}
+use Rattle.std.proofs.Common.{◌≡◌, ℕ, Bool, true, false, List, [], ◌∷◌, ◌++◌, refl, sym, ap, subst, ◌∙◌}
 use Rattle.std.specs.Prelude.{◌&&◌, Option, Some, None, ℤ, reverse}
 use Rattle.std.specs.List.{list_all}
 use Rattle.std.proofs.lemmas.List.{reverse-append}
@@ -25,6 +25,7 @@ use Rattle.relation_messages.specs.declared.relation.Relation.TheOpen.{Relation-
 use Rattle.relation_messages.specs.declared.relation.Relation.TheViews.{out-Relation, roll-Relation, out-roll-Relation}
 use Rattle.relation_messages.specs.Known.{is_known_relation}
 use Rattle.relation_messages.proofs.Folds.{relation_known}
+use Rattle.plan_messages.specs.declared.plan.Plan.{Plan}
 use Rattle.plan_messages.specs.Known.{IsKnownPlan}
 use Rattle.plan_tokens.specs.declared.token.Token.{Token}
 use Rattle.plan_grammar.specs.declared.symbol.Action.{Action}
@@ -273,3 +274,6 @@ planned_known (Some write) root e = e
 -- a plan of deeds has a spelling
 pub plan_is_known : (deeds : List Deed) → IsKnownPlan (plan_of_deeds deeds)
 plan_is_known deeds = planned_known (all_built deeds no_draft).write (top_relation (all_built deeds no_draft)) (input_known (all_keep deeds no_draft none_known))
+
+pub known_by_deeds : (plan : Plan) (deeds : List Deed) → plan ≡ plan_of_deeds deeds → IsKnownPlan plan
+known_by_deeds plan deeds e = subst IsKnownPlan (sym e) (plan_is_known deeds)

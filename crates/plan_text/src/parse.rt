@@ -12,7 +12,7 @@ use crate::heights::plan_height;
 use crate::makers::no_relation;
 use cn_base::OutOfMemory;
 use plan_grammar::{Deed, GrammarFault, derivation};
-use plan_messages::{Command, Plan, SaveTable, WriteOperation, is_known_plan};
+use plan_messages::{Command, Plan, SaveTable, WriteOperation};
 use std::alloc::Global;
 use thiserror::Error;
 
@@ -87,16 +87,11 @@ fn plan_of_draft(draft: Draft) -> Plan
 /// The plan of a text, unless its spelling is too long.
 fn allowed(plan: Plan) -> Result<Plan, TextFault>
     ensures same { IfOk result (λ allowed. allowed ≡ plan) }
-    ensures known { IfOk result IsKnownPlan }
     ensures spelled { IfOk result (λ allowed. size_of (plan_fields allowed) ≤ 67000000) }
     ensures too_long { (limit : ℕ) → result ≡ Err (TextFault.TooLong limit) → (limit ≡ 67000000) × (67000000 < size_of (plan_fields plan)) }
     ensures too_deep { (at : ℕ) → result ≢ Err (TextFault.TooDeep at) }
     ensures unexpected { (at : ℕ) → result ≢ Err (TextFault.Unexpected at) }
 {
-    // No production makes what has no spelling.
-    if !is_known_plan(&plan) {
-        return Err(TextFault::OutOfMemory);
-    }
     if plan.spelled() > LONGEST_SPELLING {
         return Err(TextFault::TooLong {
             limit: LONGEST_SPELLING,
@@ -106,6 +101,7 @@ fn allowed(plan: Plan) -> Result<Plan, TextFault>
 }
 
 /// The plan of a text's deeds.
+#[tactic(auto, using(crate::proofs::KnownDrafts::known_by_deeds))]
 fn plan_of_deeds(alloc: Global, deeds: &[Deed], length: u64) -> Result<Plan, TextFault>
     ensures built { IfOk result (λ plan. plan ≡ drafts.plan_of_deeds deeds.now) }
     ensures depth { IfOk result (λ plan. plan_depth plan ≤ 199) }
