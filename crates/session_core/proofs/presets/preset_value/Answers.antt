@@ -1,0 +1,4 @@
+use Rattle.session_core.proofs.presets.preset_value.Goals as goal
+
+pub returns-in_default : goal.returns-in_default
+returns-in_default c = let h = c.in_default in ?
