@@ -9,7 +9,7 @@ use Rattle.std.proofs.lemmas.Fmt.{parse-signed_decimal}
 use Rattle.std.proofs.lemmas.Slice.Eq.{bytes_eq-Decides}
 use Rattle.cn_types.specs.Fit.{IsInteger}
 use Rattle.session_core.specs.Presets.{is_integer, is_integer_text}
-use mir.Val.{mag}
+use lib.Signed.{mag}
 
 -- the test of 32 bits is the fact
 IsInteger-from_test : (n : ℤ) → is_integer n ≡ true → IsInteger n

@@ -19,14 +19,20 @@ batch_rows_key = codes "spark.sql.execution.arrow.maxRecordsPerBatch"
 abbrev pub ansi_key : List ℕ
 ansi_key = codes "spark.sql.ansi.enabled"
 
+abbrev pub time_zone_key : List ℕ
+time_zone_key = codes "spark.sql.session.timeZone"
+
+abbrev pub cache_key : List ℕ
+cache_key = codes "spark.sql.session.localRelationCacheThreshold"
+
 -- the presets in their order
 abbrev pub presets : List Pair
 presets =
     pair case_sensitive_key (codes "false") ∷
     pair batch_rows_key (codes "10000") ∷
     pair ansi_key (codes "false") ∷
-    pair (codes "spark.sql.session.timeZone") (codes "UTC") ∷
-    pair (codes "spark.sql.session.localRelationCacheThreshold") (codes "67108864") ∷
+    pair time_zone_key (codes "UTC") ∷
+    pair cache_key (codes "67108864") ∷
     []
 
 -- a number of 32 bits in two's complement
