@@ -157,3 +157,8 @@ spelled_answer text u bytes spelled parsed_as same number answer id is read form
     let spells : spelled ≡ id_text number = written ∙ ap (hyphenated_text lower) form in
     rw is_answer (spelled_by text u same number id (read_as text u parsed_as is read) is_number fits
     (subst (λ (t : List ℕ). IsTrue same ↔ (str_to_ascii_lowercase t ≡ str_to_ascii_lowercase text)) spells test))
+
+-- a text is that of at most one id
+pub one_id : (a b : ℕ) (text : List ℕ) → IsTextOf a text → IsTextOf b text → a ≡ b
+one_id a b text of_a of_b =
+    sym (read_number a text (to_be_bytes w128 b) of_a (parsed-either_case b text of_b.same)) ∙ from_be_bytes-to_be_bytes_16 b of_b.width

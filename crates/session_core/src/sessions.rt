@@ -1,4 +1,5 @@
-ghost use Rattle.std.specs.Prelude.{◌≡◌, ◌≢◌, ◌<◌, [], length, remove, slice_get, Some, IfOk, IfErr, OnOk, OnErr, IsTrue};
+ghost use Rattle.std.specs.Prelude.{◌≡◌, ◌≢◌, ◌<◌, [], length, position, remove, slice_get, Some, IfOk, IfErr, IfSome, OnOk, OnErr, IsTrue};
+ghost use Rattle.std.specs.Map.{keys_of};
 ghost use Rattle.std.specs.Option.{option_map, option_map_or};
 ghost use Rattle.session_core.specs.Config as config;
 ghost use Rattle.session_core.specs.Presets.{presets as first_settings};
@@ -61,9 +62,9 @@ impl Sessions {
         ensures ok { OnOk result (self.new ≡ specs.named self.old session.now (specs.settings_of self.old session.now) now) }
         ensures err { OnErr result (self.new ≡ self.old) }
     {
-        match self.sessions.get_index_of(session) {
+        match self.place_of(session) {
             Some(place) => {
-                self.sessions[place].last = now;
+                self.note(place, None, now);
                 Ok(())
             }
             None => {
@@ -72,6 +73,14 @@ impl Sessions {
                 self.make(key, settings, now)
             }
         }
+    }
+
+    /// The place of a session, where it is there.
+    fn place_of(&self, session: &SessionKey) -> Option<usize>
+        ensures place { result ≡ position (specs.same_key session.now) (keys_of self.now.sessions) }
+        ensures within { IfSome result (λ place. place < length self.now.sessions) }
+    {
+        self.sessions.get_index_of(session)
     }
 
     /// Makes a session, last.
@@ -140,7 +149,7 @@ impl Sessions {
         if !self.may_admit(&session) {
             return Err(ConfigRefusal::SessionLimit { limit: self.limit });
         }
-        match self.sessions.get_index_of(&session) {
+        match self.place_of(&session) {
             Some(place) => self.config_at(alloc, place, operation, now),
             None => self.config_new(alloc, session, operation, now),
         }
