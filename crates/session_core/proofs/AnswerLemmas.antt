@@ -1,12 +1,11 @@
 -- What the parts of an answer say: prefixes, presets and keys without a value.
-use Rattle.std.proofs.Common.{◌≡◌, ℕ, Bool, true, false, cond, ◌&&◌, List, [], ◌∷◌, ◌++◌, length, take, drop, map, filter, Option, Some, None, option_map, Result, Ok, Err, refl, sym, ap, ◌∙◌, true≢false}
-use Rattle.std.specs.Prelude.{codes, bytes_eq, is_some, is_none, nat_eq, ◌≢◌}
-use Rattle.std.specs.List.{find, starts_with}
+use Rattle.std.proofs.Common.{◌≡◌, ℕ, Bool, true, false, cond, ◌&&◌, List, [], ◌∷◌, ◌++◌, length, take, drop, map, filter, Option, Some, option_map, Ok, Err, refl, sym, ap, ◌∙◌, true≢false}
+use Rattle.std.specs.Prelude.{codes, bytes_eq, is_some, is_none}
+use Rattle.std.specs.List.{find}
 use Rattle.std.specs.Option.{option_map_or}
 use Rattle.std.proofs.lemmas.List.{take_at, drop_at, take-append-drop}
 use Rattle.std.proofs.lemmas.Slice.Eq.{bytes_eq-Decides}
 use Rattle.cn_types.specs.declared.settings.Pair.{Pair}
-use Rattle.session_core.specs.declared.refusal.ConfigRefusal.{ConfigRefusal}
 use Rattle.session_core.specs.declared.refusal.ConfigRefusal.TheVariants as refusal
 use Rattle.session_core.specs.Config.{under, pair_at, getting}
 use Rattle.session_core.specs.Presets.{pair, presets, case_sensitive_key, batch_rows_key, ansi_key, time_zone_key, cache_key}
@@ -38,6 +37,7 @@ under-none prefix pair never = by (is_some pair.value) (bytes_eq prefix (take (l
   where
     shown : Pair
     shown = record { key = drop (length prefix) pair.key; value = pair.value }
+
     by : (b t : Bool) → bytes_eq prefix (take (length prefix) pair.key) ≡ t → [] ≡ cond (b && t) (shown ∷ []) []
     by false t e = refl
     by true false e = refl
@@ -58,6 +58,7 @@ under-some prefix pair value text rest valued same begins =
   where
     shown : Pair
     shown = record { key = drop (length prefix) pair.key; value = pair.value }
+
     by : (b t : Bool) → b ≡ true → t ≡ true → ◌≡◌ {A = Pair} (record { key = rest; value = Some text }) shown
         → ◌≡◌ {A = List Pair} (record { key = rest; value = Some text } ∷ []) (cond (b && t) (shown ∷ []) [])
     by true true e f is = ap (λ (p : Pair). p ∷ []) is

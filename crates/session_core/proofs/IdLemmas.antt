@@ -1,5 +1,5 @@
 -- A text reads as the same text in lower case does, so an id is read of its text in either case, and of no other text.
-use Rattle.std.proofs.Common.{◌≡◌, ℕ, zero, suc, ◌+◌, ◌*◌, ◌<◌, ◌^◌, ◌==◌, ◌&&◌, Bool, true, false, if◌then◌else◌, List, [], ◌∷◌, ◌++◌, length, get_or, slice_index, map, Option, Some, None, inl, arith, refl, sym, ap, ◌∙◌, subst, true≢false}
+use Rattle.std.proofs.Common.{◌≡◌, ℕ, zero, suc, ◌+◌, ◌*◌, ◌<◌, ◌^◌, ◌==◌, Bool, true, false, if◌then◌else◌, List, [], ◌∷◌, ◌++◌, length, get_or, slice_index, map, Option, Some, None, inl, arith, refl, sym, ap, ◌∙◌, subst, true≢false}
 use Rattle.std.proofs.Math.ListN.{get_or-map}
 use Rattle.std.proofs.lemmas.Bool.Decides.{nat_tests}
 use Rattle.std.proofs.lemmas.List.{length-map, map-append}
@@ -56,8 +56,16 @@ digits_of-lower s =
 
 has_hyphens-lower : (s : List ℕ) → has_hyphens (str_to_ascii_lowercase s) ≡ has_hyphens s
 has_hyphens-lower s =
-    rw (at_lower s 8, at_lower s 13, at_lower s 18, at_lower s 23, hyphen_lower (slice_index s 8), hyphen_lower (slice_index s 13),
-    hyphen_lower (slice_index s 18), hyphen_lower (slice_index s 23)) refl
+    rw (
+      at_lower s 8,
+      at_lower s 13,
+      at_lower s 18,
+      at_lower s 23,
+      hyphen_lower (slice_index s 8),
+      hyphen_lower (slice_index s 13),
+      hyphen_lower (slice_index s 18),
+      hyphen_lower (slice_index s 23),
+    ) refl
 
 parsed_hyphenated-lower : (s : List ℕ) → parsed_hyphenated (str_to_ascii_lowercase s) ≡ parsed_hyphenated s
 parsed_hyphenated-lower s =

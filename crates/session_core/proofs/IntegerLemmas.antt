@@ -1,5 +1,5 @@
 -- The texts that are written for numbers of 32 bits.
-use Rattle.std.proofs.Common.{◌≡◌, ℕ, zero, suc, ◌+◌, ◌<◌, ◌≤◌, ◌^◌, ℤ, pos, negsuc, Bool, true, false, ◌&&◌, List, Result, Ok, Err, ◌↔◌, IsTrue, arith, rules, refl, sym, ap, ◌∙◌, true≢false}
+use Rattle.std.proofs.Common.{◌≡◌, ℕ, zero, suc, ◌<◌, ◌≤◌, ◌^◌, ℤ, pos, negsuc, Bool, true, false, ◌&&◌, List, Result, Ok, arith, refl, sym, ap, ◌∙◌, true≢false}
 use Rattle.std.specs.Prelude.{bytes_eq, slice_index, neg_ℤ, ◌==◌}
 use Rattle.std.specs.Fmt.{decimal, signed_decimal}
 use Rattle.std.specs.Int.{w32}
@@ -79,9 +79,11 @@ second_of_both false b e = absurd (true≢false (sym e))
 pub written_texts : IntegerTextsAreWritten
 written_texts text = (
   (λ test.
-      let n = signed_digits_value 10 text in
-      (n, IsInteger-from_test n (first_of_both (is_integer n) (bytes_eq (signed_decimal n) text) test),
-      (bytes_eq-Decides (signed_decimal n) text).0 (second_of_both (is_integer n) (bytes_eq (signed_decimal n) text) test))),
+      let n = signed_digits_value 10 text in (
+        n,
+        IsInteger-from_test n (first_of_both (is_integer n) (bytes_eq (signed_decimal n) text) test),
+        (bytes_eq-Decides (signed_decimal n) text).0 (second_of_both (is_integer n) (bytes_eq (signed_decimal n) text) test),
+      )),
   λ h.
       let read : signed_digits_value 10 text ≡ h.0 = ap (signed_digits_value 10) (sym h.2) ∙ read_back h.0 h.1 in
       both (is_integer (signed_digits_value 10 text)) (bytes_eq (signed_decimal (signed_digits_value 10 text)) text)

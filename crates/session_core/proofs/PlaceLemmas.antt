@@ -3,14 +3,14 @@ use Rattle.std.proofs.Common.{◌≡◌, ℕ, suc, ◌<◌, Bool, true, false, c
 use Rattle.std.specs.Prelude.{bytes_eq, slice_set, slice_get, is_some, OnOk, Result, Ok, Err, ◌||◌}
 use Rattle.std.specs.BTreeMap.{BTreeMap}
 use Rattle.std.specs.Borrow.{Bor}
-use Rattle.std.specs.List.{find, list_any}
+use Rattle.std.specs.List.{find}
 use Rattle.std.specs.Option.{option_and_then, option_or}
 use Rattle.std.proofs.lemmas.List.{take_more, length-take-le}
 use Rattle.std.proofs.lemmas.Option.{same_Some}
 use Rattle.std.proofs.lemmas.Slice.Eq.{bytes_eq-Decides}
 use Rattle.cn_types.specs.declared.settings.Pair.{Pair}
 use Rattle.session_core.specs.Settings.{has_key, value_of, put}
-use Rattle.session_core.specs.Places.{place_in, place_of, is_in, AreFirst}
+use Rattle.session_core.specs.Places.{place_in, place_of, AreFirst}
 
 -- a place found behind a first pair
 abbrev pub place_after : Bool → Option ℕ → Option ℕ

@@ -1,7 +1,7 @@
 -- The session of a key by its place.
-use Rattle.std.proofs.Common.{◌≡◌, ℕ, zero, suc, ◌<◌, Bool, true, false, cond, List, [], ◌∷◌, length, slice_get, position, Option, Some, None, Result, Ok, Err, IfOk, IfErr, arith, refl, sym, ap, ◌∙◌, true≢false, if◌then◌else◌}
+use Rattle.std.proofs.Common.{◌≡◌, ℕ, zero, suc, ◌<◌, Bool, true, false, List, [], ◌∷◌, length, slice_get, position, Option, Some, None, Result, Ok, Err, IfOk, IfErr, arith, refl, sym, ap, ◌∙◌, true≢false, if◌then◌else◌}
 use Rattle.std.specs.Prelude.{is_some}
-use Rattle.std.specs.Map.{keys_of, values_of, lookup}
+use Rattle.std.specs.Map.{keys_of, values_of}
 use Rattle.std.specs.Option.{option_map_or}
 use Rattle.std.proofs.lemmas.Option.{same_Some}
 use Rattle.indexmap.proofs.MapLemmas.{Found-position, insert_entry-first, some_index}
@@ -10,9 +10,9 @@ use Rattle.request_messages.specs.declared.config.ConfigOperation.{ConfigOperati
 use Rattle.session_core.specs.declared.refusal.ConfigRefusal.TheVariants as refusal
 use Rattle.session_core.specs.declared.keys.SessionKey.{SessionKey}
 use Rattle.session_core.specs.declared.session.Session.{Session}
-use Rattle.session_core.specs.Config.{answered, changed}
+use Rattle.session_core.specs.Config.{answered}
 use Rattle.session_core.specs.Presets.{presets}
-use Rattle.session_core.specs.Sessions.{Opened, same_key, session_of, settings_of, settings_at, named, named_at, may_admit, configured, settings_after}
+use Rattle.session_core.specs.Sessions.{Opened, same_key, session_of, settings_of, settings_at, named, named_at, may_admit, configured}
 
 -- the settings at a place, by the session there
 pub settings_at-value : (limit : ℕ) (es : List (SessionKey × Session)) (i : ℕ) (session : Session) → slice_get (values_of es) i ≡ Some session

@@ -1,5 +1,5 @@
 -- What an operation on settings answers, and the settings that it leaves.
-use Rattle.std.specs.Prelude.{ℕ, ◌+◌, Bool, true, false, not, if◌then◌else◌, List, [], ◌∷◌, map, length, drop, Option, Some, None, Result, Ok, Err, is_none, is_some, nat_lt, ◌&&◌, sum_by, bytes_eq, unwrap_or, codes}
+use Rattle.std.specs.Prelude.{ℕ, ◌+◌, Bool, false, not, if◌then◌else◌, List, [], ◌∷◌, map, length, drop, Result, Ok, Err, is_none, is_some, nat_lt, ◌&&◌, sum_by, unwrap_or, codes}
 use Rattle.std.specs.List.{find, flat_map, starts_with}
 use Rattle.std.specs.Option.{option_map_or, option_or}
 use Rattle.std.specs.Bool.{nat_eq}

@@ -5,7 +5,6 @@ use Rattle.std.specs.Option.{option_map_or}
 use Rattle.indexmap.specs.IndexMap.{insert_entry}
 use Rattle.indexmap.specs.Layout.{set_value_at}
 use Rattle.cn_types.specs.declared.settings.Pair.{Pair}
-use Rattle.cn_types.specs.declared.settings.Settings.{Settings}
 use Rattle.request_messages.specs.declared.config.ConfigOperation.{ConfigOperation}
 use Rattle.session_core.specs.declared.refusal.ConfigRefusal.TheVariants as refusal
 use Rattle.session_core.specs.declared.keys.SessionKey.{SessionKey}
@@ -38,7 +37,7 @@ may_admit opened key = is_some (session_of opened key) || nat_lt (length opened.
 abbrev pub named : Opened → SessionKey → List Pair → ℕ → Opened
 named opened key settings now = record {
   limit = opened.limit;
-  sessions = insert_entry same_key opened.sessions key (record { settings = record { 0 = settings }; last = now })
+  sessions = insert_entry same_key opened.sessions key (record { settings = record { 0 = settings }; last = now });
 }
 
 -- the settings of the session at a place
@@ -49,7 +48,7 @@ settings_at opened place = option_map_or (λ entry. entry.1.settings.0) (slice_g
 abbrev pub named_at : Opened → ℕ → List Pair → ℕ → Opened
 named_at opened place settings now = record {
   limit = opened.limit;
-  sessions = set_value_at opened.sessions place (record { settings = record { 0 = settings }; last = now })
+  sessions = set_value_at opened.sessions place (record { settings = record { 0 = settings }; last = now });
 }
 
 -- what an operation on the settings of a session answers

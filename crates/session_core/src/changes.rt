@@ -50,11 +50,7 @@ fn put<'a>(
 }
 
 /// The settings with these pairs put among them, one after another.
-fn put_all(
-    alloc: Global,
-    settings: &[Pair],
-    new: &[KeyValue],
-) -> Result<List<Pair>, OutOfMemory>
+fn put_all(alloc: Global, settings: &[Pair], new: &[KeyValue]) -> Result<List<Pair>, OutOfMemory>
     ensures { IfOk result (λ pairs. pairs ≡ words.put_all settings.now (map specs.pair_of new.now)) }
 {
     let mut places = places_of(alloc, settings)?;
@@ -98,11 +94,7 @@ fn set_of<'a>(alloc: Global, keys: &'a [Text]) -> Result<BTreeMap<&'a str, ()>, 
 }
 
 /// The settings that are left where these keys are unset.
-fn without(
-    alloc: Global,
-    keys: &[Text],
-    settings: &[Pair],
-) -> Result<List<Pair>, OutOfMemory>
+fn without(alloc: Global, keys: &[Text], settings: &[Pair]) -> Result<List<Pair>, OutOfMemory>
     ensures { IfOk result (λ pairs. pairs ≡ words.without keys.now settings.now) }
 {
     let unset = set_of(alloc, keys)?;

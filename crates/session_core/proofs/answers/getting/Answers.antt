@@ -1,5 +1,5 @@
 -- The first pair without a value decides.
-use Rattle.std.proofs.Common.{◌≡◌, Some, None, Ok, Err, List, ℕ, map, ◌∙◌, sym, ap}
+use Rattle.std.proofs.Common.{Some, None, Ok, Err, List, ℕ, map, ◌∙◌, sym, ap}
 use Rattle.session_core.specs.declared.refusal.ConfigRefusal.TheVariants as refusal
 use Rattle.session_core.specs.declared.shown.Shown.{Shown}
 use Rattle.session_core.specs.Shown.{told}

@@ -1,5 +1,5 @@
 -- A key without the prefix isn't shown, and one with it is shown without it.
-use Rattle.std.proofs.Common.{◌≡◌, ◌++◌, List, ℕ, ◌∙◌, sym, ap}
+use Rattle.std.proofs.Common.{◌++◌, List, ℕ, ◌∙◌, sym, ap}
 use Rattle.session_core.proofs.AnswerLemmas.{under-none, under-some}
 use Rattle.session_core.proofs.answers.under.Goals as goal
 

@@ -1,7 +1,6 @@
 -- A key with a place keeps it, and one without comes last.
-use Rattle.std.proofs.Common.{◌≡◌, Some, None, ◌∙◌, sym, ap}
+use Rattle.std.proofs.Common.{Some, None, ◌∙◌, sym}
 use Rattle.std.proofs.lemmas.Map.Text.{btree_map_updates_str}
-use Rattle.session_core.specs.Places.{AreFirst}
 use Rattle.session_core.proofs.PlaceLemmas.{OnOk-map, place_in-within, place_in-set, place_in-held_as, put-placed, put-new, AreFirst-put_new}
 use Rattle.session_core.proofs.changes.put.Goals as goal
 

@@ -1,5 +1,5 @@
 -- One pair more: what is left of it is added.
-use Rattle.std.proofs.Common.{◌≡◌, ◌∙◌, sym}
+use Rattle.std.proofs.Common.{◌∙◌, sym}
 use Rattle.session_core.proofs.UnsetLemmas.{without-named, without-kept}
 use Rattle.session_core.proofs.changes.without.Goals as goal
 use Rattle.session_core.proofs.changes.without.Goals.{then-contains_key+in_ok-put_preset, else-contains_key+in_ok-copy+in_ok-push}

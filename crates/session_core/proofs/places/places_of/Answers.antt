@@ -1,7 +1,6 @@
 -- A key that is new stands at the place of its pair; one that is there keeps its first place.
-use Rattle.std.proofs.Common.{◌≡◌, ◌∙◌, sym, arith, subst}
+use Rattle.std.proofs.Common.{◌∙◌, sym}
 use Rattle.std.proofs.lemmas.Map.Text.{btree_map_updates_str}
-use Rattle.session_core.specs.Places.{AreFirst}
 use Rattle.session_core.proofs.PlaceLemmas.{AreFirst-next_new, AreFirst-next_kept}
 use Rattle.session_core.proofs.places.places_of.Goals as goal
 use Rattle.session_core.proofs.places.places_of.Goals.{then-not-contains_key+in_ok-insert, else-not-contains_key}

@@ -1,6 +1,5 @@
 -- A key without a place has no value, and one with a place has the value of the pair there.
-use Rattle.std.proofs.Common.{◌≡◌, Option, Some, None, ◌∙◌, sym, ap}
-use Rattle.std.specs.Option.{option_and_then, option_map}
+use Rattle.std.proofs.Common.{Some, None, ◌∙◌, sym, ap}
 use Rattle.session_core.proofs.PlaceLemmas.{value_of-at, value_of-none, place_in-held}
 use Rattle.session_core.proofs.places.value_at.Goals as goal
 

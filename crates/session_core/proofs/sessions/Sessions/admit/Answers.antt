@@ -1,5 +1,5 @@
 -- A session that is there keeps its place and its settings.
-use Rattle.std.proofs.Common.{◌≡◌, List, ◌∙◌, sym, ap}
+use Rattle.std.proofs.Common.{List, ◌∙◌, sym, ap}
 use Rattle.cn_types.specs.declared.settings.Pair.{Pair}
 use Rattle.session_core.specs.Sessions.{settings_of, named, named_at}
 use Rattle.session_core.specs.declared.keys.SessionKey.{SessionKey}

@@ -1,9 +1,9 @@
 -- An admitted operation is one on the session at its place, or on a new one.
-use Rattle.std.proofs.Common.{◌≡◌, List, ◌∙◌, sym, ap, true}
+use Rattle.std.proofs.Common.{List, ◌∙◌, sym, ap}
 use Rattle.cn_types.specs.declared.settings.Pair.{Pair}
-use Rattle.session_core.specs.Config.{answered, changed}
+use Rattle.session_core.specs.Config.{changed}
 use Rattle.session_core.specs.Presets.{presets}
-use Rattle.session_core.specs.Sessions.{settings_of, settings_at, settings_after, named, named_at, may_admit, configured}
+use Rattle.session_core.specs.Sessions.{settings_at, settings_after, named, named_at}
 use Rattle.session_core.proofs.PlaceLemmas.{OnOk-map}
 use Rattle.session_core.proofs.SessionLemmas.{settings_of-there, settings_of-new, named-there, configured-admitted, IfOk-map, IfErr-map}
 use Rattle.session_core.proofs.sessions.Sessions.config.Goals as goal
