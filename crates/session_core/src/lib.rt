@@ -19,6 +19,6 @@ mod tests;
 pub use cn_types::{Pair, Settings};
 pub use ids::parse_id;
 pub use keys::{HandleField, Key, SessionKey};
-pub use laws::{ids_fold_case, integers_are_written};
+pub use laws::{ids_fold_case, integers_are_written, presets_stay};
 pub use refusal::ConfigRefusal;
 pub use sessions::Sessions;
