@@ -1,1 +1,9 @@
 -- Facts for the walk over expressions.
+pub mod Arguments
+pub mod ExprForms
+pub mod Gathering
+pub mod GroupForms
+pub mod SameForms
+pub mod Standings
+pub mod StarSteps
+pub mod TitleSteps

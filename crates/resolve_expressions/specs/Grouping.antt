@@ -2,6 +2,7 @@
 use Rattle.std.specs.Prelude.{ℕ, ◌+◌, ◌-◌, ◌||◌, Bool, false, List, [], ◌∷◌, map, length, slice_get, position, Option, Some, None, Ok}
 use Rattle.std.specs.List.{list_any}
 use Rattle.cn_types.specs.declared.value.DataType.{DataType}
+use Rattle.expression_messages.specs.declared.expression.UnresolvedFunction.{UnresolvedFunction}
 use Rattle.expression_messages.specs.declared.expression.Expr.{Expr}
 use Rattle.expression_messages.specs.declared.expression.Expr.TheOpen.{Expr-F}
 use Rattle.expression_messages.specs.declared.expression.Expr.TheFolds.{fold-Expr}
@@ -25,10 +26,14 @@ abbrev pub is_aggregate_name : Option Function → Bool
 is_aggregate_name (Some function) = is_aggregate function
 is_aggregate_name None = false
 
+-- a call is of an aggregate function, or one of its arguments has such a call
+abbrev pub call_has_aggregate : {E : Type 0} → (E → Bool) → UnresolvedFunction E → Bool
+call_has_aggregate has f = is_aggregate_name (function_named f.function_name) || list_any has f.arguments
+
 abbrev pub has_aggregate_step : Expr-F Bool → Bool
 has_aggregate_step (Expr-F.Literal literal) = false
 has_aggregate_step (Expr-F.UnresolvedAttribute attribute) = false
-has_aggregate_step (Expr-F.UnresolvedFunction f) = is_aggregate_name (function_named f.function_name) || list_any (λ argument. argument) f.arguments
+has_aggregate_step (Expr-F.UnresolvedFunction f) = call_has_aggregate (λ has. has) f
 has_aggregate_step (Expr-F.UnresolvedStar star) = false
 has_aggregate_step (Expr-F.Alias alias) = alias.expr
 has_aggregate_step (Expr-F.Cast cast) = cast.expr
@@ -68,7 +73,7 @@ module _ {I : Type 0} (same_expr : TypedExpr → TypedExpr → Bool) (columns : 
   regrouped_step (TypedExpr-F.Literal value kind) = by_key (typed.Literal value kind) (Ok (typed.Literal value kind))
   regrouped_step (TypedExpr-F.Call function arguments kind) =
       by_key (typed.Call function (map (λ a. a.whole) arguments) kind)
-          (all_checked (map (λ a. a.grouped) arguments) >>= λ exprs. Ok (typed.Call function exprs kind))
+      (all_checked (map (λ a. a.grouped) arguments) >>= λ exprs. Ok (typed.Call function exprs kind))
   regrouped_step (TypedExpr-F.Cast child kind) = by_key (typed.Cast child.whole kind) (child.grouped >>= λ expr. Ok (typed.Cast expr kind))
 
   unfoldable pub regrouped : TypedExpr → Checked TypedExpr

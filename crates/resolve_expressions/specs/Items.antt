@@ -27,13 +27,23 @@ pub record Itemized : Type 0 where
   pub item : Item
   pub calls : List AggregateCall
 
+abbrev pub itemized : Item → List AggregateCall → Itemized
+itemized item calls = record { item = item; calls = calls }
+
 -- the column that an expression alone is, where it is one of so many columns
+abbrev pub column_within : ℕ → ℕ → Option ℕ
+column_within width place = if nat_lt place width then Some place else None
+
 abbrev pub column_in : ℕ → TypedExpr-F TypedExpr → Option ℕ
-column_in width (TypedExpr-F.Column place kind) = if nat_lt place width then Some place else None
+column_in width (TypedExpr-F.Column place kind) = column_within width place
 column_in width form = None
 
 abbrev pub bare_column : ℕ → TypedExpr → Option ℕ
 bare_column width expr = column_in width (out-TypedExpr expr)
+
+-- the column that an item stays, where it is a bare attribute
+abbrev pub source_of : {I : Type 0} → Bool → List (ColumnOf I) → TypedExpr → Option ℕ
+source_of bare columns expr = if bare then bare_column (length columns) expr else None
 
 -- an aggregate call may be null, but for a count
 abbrev pub call_is_nullable : Option AggregateCall → Bool
@@ -67,10 +77,14 @@ abbrev pub one_name : List (List ℕ) → Checked (List ℕ)
 one_name (name ∷ []) = Ok name
 one_name names = refused (meaningless 6)
 
+-- the name of the column at a place
+abbrev pub name_in : {I : Type 0} → List (ColumnOf I) → ℕ → List ℕ
+name_in columns place = unwrap_or (option_map (λ column. column.name) (slice_get columns place)) []
+
 module _ {I : Type 0} (same : I → I → Bool) (exact : Bool) (columns : List (ColumnOf I)) (relations : List (Tagged I)) where
   -- the name of the column that an attribute names
   abbrev pub name_at : Checked ℕ → List ℕ
-  name_at (Ok place) = unwrap_or (option_map (λ column. column.name) (slice_get columns place)) []
+  name_at (Ok place) = name_in columns place
   name_at (Err stop) = []
 
   unfoldable pub attribute_title : UnresolvedAttribute → List ℕ
@@ -85,10 +99,10 @@ module _ {I : Type 0} (same : I → I → Bool) (exact : Bool) (columns : List (
       item = record {
         name = name;
         expr = typed;
-        source = if bare then bare_column (length columns) typed else None;
-        nullable = is_nullable columns typing.calls typed
+        source = source_of bare columns typed;
+        nullable = is_nullable columns typing.calls typed;
       };
-      calls = typing.calls
+      calls = typing.calls;
     })
 
   -- an alias gives its name, and its expression is a column of its own; else the expression gives its name, and a bare attribute stays its column

@@ -37,6 +37,17 @@ pub record Grouped : Type 0 where
   pub items : List Item
   pub calls : List AggregateCall
 
+abbrev pub group : List Item → List AggregateCall → Grouped
+group items calls = record { items = items; calls = calls }
+
+-- items over the values of these keys
+abbrev pub regrouped_items : {I : Type 0} → List (ColumnOf I) → List TypedExpr → List Item → Checked (List Item)
+regrouped_items columns keys items = all_checked (map (regrouped_item same_expr columns keys) items)
+
+-- the star that an expression is, where stars have a meaning
+abbrev pub star_meant : Bool → Expr → Option UnresolvedStar
+star_meant stars expr = if stars then star_of expr else None
+
 -- a condition is boolean; this is told where it is not
 abbrev pub boolean_only : List ℕ → TypedExpr → Checked TypedExpr
 boolean_only what expr = if same_kind DataType.Boolean (kind_of expr) then Ok expr else refused (mismatch what)
@@ -96,27 +107,27 @@ module _ {I : Type 0} (same : I → I → Bool) (exact : Bool) (columns : List (
 
   -- ---- items of an aggregate with these keys
 
-  abbrev pub regrouped_items : List TypedExpr → List Item → Checked (List Item)
-  regrouped_items keys items = all_checked (map (regrouped_item same_expr columns keys) items)
-
   unfoldable pub grouped_item : List TypedExpr → Expr → List AggregateCall → Checked Grouped
   grouped_item keys expr calls = do
     itemized ← item_of same exact columns relations expr true calls
-    items ← regrouped_items keys (itemized.item ∷ [])
-    Ok (record { items = items; calls = itemized.calls })
+    items ← regrouped_items columns keys (itemized.item ∷ [])
+    Ok (group items itemized.calls)
+
+  -- the columns of a star
+  unfoldable pub grouped_star : List TypedExpr → UnresolvedStar → List AggregateCall → Checked Grouped
+  grouped_star keys star calls = do
+    columns_meant ← star_items exact columns star.unparsed_target
+    items ← regrouped_items columns keys columns_meant
+    Ok (group items calls)
+
+  abbrev pub grouped_by : Option UnresolvedStar → List TypedExpr → Expr → List AggregateCall → Checked Grouped
+  grouped_by (Some star) keys expr calls = grouped_star keys star calls
+  grouped_by None keys expr calls = grouped_item keys expr calls
 
   -- a star is one where `stars` says so, of a projection with an aggregate call
-  abbrev pub grouped_by : Bool → Option UnresolvedStar → List TypedExpr → Expr → List AggregateCall → Checked Grouped
-  grouped_by true (Some star) keys expr calls = do
-    columns_meant ← star_items exact columns star.unparsed_target
-    items ← regrouped_items keys columns_meant
-    Ok (record { items = items; calls = calls })
-  grouped_by false (Some star) keys expr calls = grouped_item keys expr calls
-  grouped_by stars None keys expr calls = grouped_item keys expr calls
-
   unfoldable pub grouped : Bool → List TypedExpr → List Expr → List AggregateCall → Checked Grouped
-  grouped stars keys [] calls = Ok (record { items = []; calls = calls })
+  grouped stars keys [] calls = Ok (group [] calls)
   grouped stars keys (expr ∷ exprs) calls = do
-    first ← grouped_by stars (star_of expr) keys expr calls
+    first ← grouped_by (star_meant stars expr) keys expr calls
     rest ← grouped stars keys exprs first.calls
-    Ok (record { items = first.items ++ rest.items; calls = rest.calls })
+    Ok (group (first.items ++ rest.items) rest.calls)

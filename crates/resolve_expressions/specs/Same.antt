@@ -1,5 +1,7 @@
 -- Whether two expressions are the same.
 use Rattle.std.specs.Prelude.{ℕ, ◌&&◌, Bool, true, false, nat_eq, List, [], ◌∷◌}
+use Rattle.cn_types.specs.declared.value.DataType.{DataType}
+use Rattle.cn_types.specs.declared.value.Value.{Value}
 use Rattle.cn_types.specs.Order.{value_eq}
 use Rattle.plan_model.specs.declared.expression.TypedExpr.{TypedExpr}
 use Rattle.plan_model.specs.declared.expression.TypedExpr.TheOpen.{TypedExpr-F}
@@ -58,15 +60,33 @@ all_same [] (other ∷ others) = false
 all_same (same ∷ rest) [] = false
 all_same (same ∷ rest) (other ∷ others) = same other && all_same rest others
 
--- the same form with the same parts, where `same` tells whether a part of the first is the other's
-abbrev pub same_form : TypedExpr-F (TypedExpr → Bool) → TypedExpr-F TypedExpr → Bool
-same_form (TypedExpr-F.Column place kind) (TypedExpr-F.Column other_place other) = nat_eq place other_place && same_kind kind other
-same_form (TypedExpr-F.Literal value kind) (TypedExpr-F.Literal other_value other) = value_eq value other_value && same_kind kind other
-same_form (TypedExpr-F.Call function arguments kind) (TypedExpr-F.Call other_function others other) =
+-- the same form with the same parts; the parts of the first stand as tests of the other's
+abbrev pub same_column : ℕ → DataType → TypedExpr-F TypedExpr → Bool
+same_column place kind (TypedExpr-F.Column other_place other) = nat_eq place other_place && same_kind kind other
+same_column place kind form = false
+
+abbrev pub same_literal : Value → DataType → TypedExpr-F TypedExpr → Bool
+same_literal value kind (TypedExpr-F.Literal other_value other) = value_eq value other_value && same_kind kind other
+same_literal value kind form = false
+
+abbrev pub same_call : Function → List (TypedExpr → Bool) → DataType → TypedExpr-F TypedExpr → Bool
+same_call function arguments kind (TypedExpr-F.Call other_function others other) =
     same_function function other_function && (all_same arguments others && same_kind kind other)
-same_form (TypedExpr-F.Cast child kind) (TypedExpr-F.Cast other_child other) = child other_child && same_kind kind other
-same_form form other = false
+same_call function arguments kind form = false
+
+abbrev pub same_cast : (TypedExpr → Bool) → DataType → TypedExpr-F TypedExpr → Bool
+same_cast child kind (TypedExpr-F.Cast other_child other) = child other_child && same_kind kind other
+same_cast child kind form = false
+
+abbrev pub same_form : TypedExpr-F (TypedExpr → Bool) → TypedExpr-F TypedExpr → Bool
+same_form (TypedExpr-F.Column place kind) form = same_column place kind form
+same_form (TypedExpr-F.Literal value kind) form = same_literal value kind form
+same_form (TypedExpr-F.Call function arguments kind) form = same_call function arguments kind form
+same_form (TypedExpr-F.Cast child kind) form = same_cast child kind form
+
+abbrev pub same_step : TypedExpr-F (TypedExpr → Bool) → TypedExpr → Bool
+same_step form other = same_form form (out-TypedExpr other)
 
 -- whether two expressions are the same
 unfoldable pub same_expr : TypedExpr → TypedExpr → Bool
-same_expr = fold-TypedExpr (TypedExpr → Bool) (λ form other. same_form form (out-TypedExpr other))
+same_expr = fold-TypedExpr (TypedExpr → Bool) same_step

@@ -26,12 +26,19 @@ abbrev pub some_items : List ℕ → List Item → Checked (List Item)
 some_items identifier [] = refused (unresolved identifier)
 some_items identifier (item ∷ items) = Ok (item ∷ items)
 
+-- every column passes; or those with this qualifier
+abbrev pub any_column : {I : Type 0} → ColumnOf I → Bool
+any_column column = true
+
+abbrev pub has_qualifier : {I : Type 0} → Bool → List (List ℕ) → ColumnOf I → Bool
+has_qualifier exact parts column = parts_match exact parts column.qualifier
+
 abbrev pub qualified : {I : Type 0} → Bool → List (ColumnOf I) → List ℕ → Checked (List Item)
 qualified exact columns identifier = do
   parts ← parts_of identifier
-  some_items identifier (items_where (λ column. parts_match exact parts column.qualifier) 0 columns)
+  some_items identifier (items_where (has_qualifier exact parts) 0 columns)
 
 -- without a target all columns, of which there may be none; with one those with this qualifier, of which there is one at least
 unfoldable pub star_items : {I : Type 0} → Bool → List (ColumnOf I) → Option (List ℕ) → Checked (List Item)
-star_items exact columns None = Ok (items_where (λ column. true) 0 columns)
+star_items exact columns None = Ok (items_where any_column 0 columns)
 star_items exact columns (Some target) = qualified exact columns (target_name target)

@@ -1,6 +1,6 @@
 -- Expressions with their types over columns. Parts are typed from left to right, and the first error decides.
-use Rattle.std.specs.Prelude.{ℕ, ◌+◌, ◌&&◌, Bool, true, false, List, [], ◌∷◌, ◌++◌, length, Option, Some, None, Ok, codes}
-use Rattle.std.specs.Fmt.{unsigned_decimal}
+use Rattle.std.specs.Prelude.{ℕ, ◌+◌, ◌&&◌, if◌then◌else◌, Bool, true, false, List, [], ◌∷◌, ◌++◌, length, Option, Some, None, Ok, codes}
+use Rattle.std.specs.Fmt.{decimal}
 use Rattle.std.specs.List.{list_any}
 use Rattle.std.specs.Str.{str_to_ascii_lowercase}
 use Rattle.cn_types.specs.declared.value.DataType.{DataType}
@@ -9,6 +9,7 @@ use Rattle.expression_messages.specs.declared.expression.UnresolvedFunction.{Unr
 use Rattle.expression_messages.specs.declared.expression.Expr.{Expr}
 use Rattle.expression_messages.specs.declared.expression.Expr.TheOpen.{Expr-F}
 use Rattle.expression_messages.specs.declared.expression.Expr.TheFolds.{fold-Expr}
+use Rattle.expression_messages.specs.declared.expression.Expr.TheViews.{out-Expr}
 use Rattle.plan_model.specs.declared.expression.TypedExpr.{TypedExpr}
 use Rattle.plan_model.specs.declared.expression.TypedExpr.TheVariants as typed
 use Rattle.plan_model.specs.declared.function.Function.{Function}
@@ -45,10 +46,24 @@ some_typed found = found >>= λ expr. Ok (Some expr)
 
 -- an expression that has no meaning where it stands, by its field number
 abbrev pub meaningless : ℕ → Refusal
-meaningless number = refusal Unsupported (codes "expression " ++ unsigned_decimal number)
+meaningless number = refusal Unsupported (codes "expression " ++ decimal number)
 
 abbrev pub no_value : Bool → ℕ → Standing
 no_value star number = record { star = star; typed = λ allowed calls. refused (meaningless number) }
+
+-- whether an expression is a star
+abbrev pub star_form : Expr-F Expr → Bool
+star_form (Expr-F.Literal literal) = false
+star_form (Expr-F.UnresolvedAttribute attribute) = false
+star_form (Expr-F.UnresolvedFunction f) = false
+star_form (Expr-F.UnresolvedStar star) = true
+star_form (Expr-F.Alias alias) = false
+star_form (Expr-F.Cast cast) = false
+star_form (Expr-F.SortOrder order) = false
+star_form (Expr-F.Other number) = false
+
+unfoldable pub is_star : Expr → Bool
+is_star expr = star_form (out-Expr expr)
 
 -- ---- calls
 
@@ -57,12 +72,15 @@ pub record Arguments : Type 0 where
   pub exprs : List (Option TypedExpr)
   pub calls : List AggregateCall
 
+abbrev pub arguments : List (Option TypedExpr) → List AggregateCall → Arguments
+arguments exprs calls = record { exprs = exprs; calls = calls }
+
 abbrev pub arguments_typed : Bool → List Standing → List AggregateCall → Checked Arguments
-arguments_typed allowed [] calls = Ok (record { exprs = []; calls = calls })
-arguments_typed allowed (argument ∷ arguments) calls = do
+arguments_typed allowed [] calls = Ok (arguments [] calls)
+arguments_typed allowed (argument ∷ others) calls = do
   first ← argument.typed allowed calls
-  rest ← arguments_typed allowed arguments first.calls
-  Ok (record { exprs = first.expr ∷ rest.exprs; calls = rest.calls })
+  rest ← arguments_typed allowed others first.calls
+  Ok (arguments (first.expr ∷ rest.exprs) rest.calls)
 
 -- the call behind the calls so far; its value stands at the end of the columns and theirs
 abbrev pub with_call : ℕ → List AggregateCall → AggregateCall → DataType → Typing
@@ -90,7 +108,7 @@ aggregate_typed width name function distinct arguments calls = do
 abbrev pub rows_counted : ℕ → List AggregateCall → Typing
 rows_counted width calls = with_call width calls (record { function = Function.Count; argument = None; distinct = false }) DataType.Long
 
-abbrev pub has_star : List Standing → Bool
+unfoldable pub has_star : List Standing → Bool
 has_star arguments = list_any (λ argument. argument.star) arguments
 
 abbrev pub call_typed : ℕ → List ℕ → Function → Bool → List Standing → Bool → List AggregateCall → Checked Typing
@@ -130,5 +148,5 @@ module _ {I : Type 0} (same : I → I → Bool) (exact : Bool) (columns : List (
   standing = fold-Expr Standing standing_step
 
   -- an expression's typing where aggregate calls are allowed, or not, behind the calls so far
-  abbrev pub typed_over : Expr → Bool → List AggregateCall → Checked Typing
+  unfoldable pub typed_over : Expr → Bool → List AggregateCall → Checked Typing
   typed_over expr allowed calls = (standing expr).typed allowed calls

@@ -1,6 +1,25 @@
 //! Expressions with their types over the columns that they see, their names, and the columns that relations make of them.
 #![tactic(auto)]
 
+mod grouping;
 mod item;
+mod items;
+mod names;
+mod outputs;
+mod same;
+mod stars;
+#[cfg(test)]
+mod tests;
+mod titles;
+mod typings;
 
+pub use grouping::{has_aggregate, regrouped, regrouped_item};
 pub use item::Item;
+pub use items::item_of;
+pub use names::Names;
+pub use outputs::{
+    added_items, condition_of, grouped, key_items, projected, sort_keys_of, value_of,
+};
+pub use same::same_expr;
+pub use stars::star_items;
+pub use typings::typed_over;

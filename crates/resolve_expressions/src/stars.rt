@@ -1,0 +1,137 @@
+ghost use Rattle.std.specs.Prelude.{◌≡◌, ◌≢◌, IfOk, IfErr, Ok, Err, zip};
+ghost use Rattle.std.specs.List.{list_all};
+ghost use Rattle.resolve_names.specs.declared.error.ResolveStop.TheVariants.{OutOfMemory as no_memory};
+ghost use Rattle.resolve_names.specs.Matching.{name_matches};
+ghost use Rattle.resolve_names.specs.Scopes as scopes;
+ghost use Rattle.resolve_expressions.specs.Named as named;
+ghost use Rattle.resolve_expressions.specs.Stars as stars;
+
+use crate::{Item, Names};
+use cn_base::{Copied, List, OutOfMemory, Text};
+use expression_messages::UnresolvedStar;
+use plan_model::TypedExpr;
+use resolve_names::{
+    ErrorName, ResolveStop, ScopeColumn, analysis_stop, identifier_parts, names_match,
+};
+use std::alloc::Global;
+
+/// The columns that a star means, as they are: all, of which there may be none, or those with its target as their qualifier, of which there
+/// is one at least. Errors: BadIdentifier, UnresolvedColumn. A place from 2^32 on is answered as want of memory.
+#[tactic(auto, unfolding(crate::specs::Stars::star_items))]
+pub fn star_items(
+    alloc: Global,
+    names: &Names<'_>,
+    star: &UnresolvedStar,
+) -> Result<List<Item>, ResolveStop>
+    ensures ok { IfOk result (λ items. named.star_in names.now star.now ≡ Ok items) }
+    ensures refused { IfErr result (λ e. e ≢ no_memory → named.star_in names.now star.now ≡ Err e) }
+{
+    match &star.unparsed_target {
+        None => Ok(all_items(alloc, names.columns)?),
+        Some(target) => qualified_items(alloc, names, target_name(target.as_str())),
+    }
+}
+
+/// A target without the `.*` at its end.
+fn target_name(target: &str) -> &str
+    ensures { result.now ≡ stars.target_name target.now }
+{
+    match target.strip_suffix(".*") {
+        Some(name) => name,
+        None => target,
+    }
+}
+
+fn all_items(alloc: Global, columns: &[ScopeColumn]) -> Result<List<Item>, OutOfMemory>
+    ensures { IfOk result (λ items. items ≡ stars.items_where stars.any_column 0 columns.now) }
+{
+    let mut items = List::new(alloc);
+    for (place, column) in columns.iter().enumerate() {
+        items.push(column_item(alloc, place, column)?)?;
+    }
+    Ok(items)
+}
+
+/// The columns with this qualifier.
+#[tactic(auto, using(crate::proofs::StarSteps::some_items_there))]
+fn qualified_items(
+    alloc: Global,
+    names: &Names<'_>,
+    identifier: &str,
+) -> Result<List<Item>, ResolveStop>
+    ensures ok { IfOk result (λ items. stars.qualified names.now.case_sensitive names.now.columns.now identifier.now ≡ Ok items) }
+    ensures refused { IfErr result (λ e. e ≢ no_memory → stars.qualified names.now.case_sensitive names.now.columns.now identifier.now ≡ Err e) }
+{
+    let parts = parts_of(alloc, identifier)?;
+    let items = items_of(alloc, names.case_sensitive, parts.as_slice(), names.columns)?;
+    if items.is_empty() {
+        return Err(analysis_stop(alloc, ErrorName::UnresolvedColumn, identifier));
+    }
+    Ok(items)
+}
+
+/// The parts of an identifier, or BadIdentifier.
+#[tactic(auto, unfolding(resolve_names::specs::Scopes::parts_of))]
+fn parts_of(alloc: Global, identifier: &str) -> Result<List<Text>, ResolveStop>
+    ensures ok { IfOk result (λ parts. scopes.parts_of identifier.now ≡ Ok parts) }
+    ensures refused { IfErr result (λ e. e ≢ no_memory → scopes.parts_of identifier.now ≡ Err e) }
+{
+    match identifier_parts(alloc, identifier)? {
+        Some(parts) => Ok(parts),
+        None => Err(analysis_stop(alloc, ErrorName::BadIdentifier, identifier)),
+    }
+}
+
+fn items_of(
+    alloc: Global,
+    case_sensitive: bool,
+    parts: &[Text],
+    columns: &[ScopeColumn],
+) -> Result<List<Item>, OutOfMemory>
+    ensures { IfOk result (λ items. items ≡ stars.items_where (stars.has_qualifier case_sensitive parts.now) 0 columns.now) }
+{
+    let mut items = List::new(alloc);
+    for (place, column) in columns.iter().enumerate() {
+        if has_qualifier(case_sensitive, parts, column.qualifier.as_slice()) {
+            items.push(column_item(alloc, place, column)?)?;
+        }
+    }
+    Ok(items)
+}
+
+fn has_qualifier(case_sensitive: bool, parts: &[Text], qualifier: &[Text]) -> bool
+    ensures { result ≡ scopes.parts_match case_sensitive parts.now qualifier.now }
+{
+    if parts.len() != qualifier.len() {
+        return false;
+    }
+    all_match(case_sensitive, parts, qualifier)
+}
+
+fn all_match(case_sensitive: bool, parts: &[Text], qualifier: &[Text]) -> bool
+    ensures { result ≡ list_all (λ pair. name_matches case_sensitive pair.0 pair.1) (zip parts.now qualifier.now) }
+{
+    parts.iter().zip(qualifier.iter()).all(|(part, own)| names_match(
+        case_sensitive,
+        part.as_str(),
+        own.as_str(),
+    ))
+}
+
+/// The column at a place, as it is.
+fn column_item(alloc: Global, place: usize, column: &ScopeColumn) -> Result<Item, OutOfMemory>
+    ensures { IfOk result (λ item. item ≡ stars.column_item place column.now) }
+{
+    let Ok(place) = u32::try_from(place) else {
+        return Err(OutOfMemory);
+    };
+    Ok(Item {
+        name: column.name.copy(alloc)?,
+        expr: TypedExpr::Column {
+            place,
+            kind: column.kind,
+        },
+        source: Some(place),
+        nullable: column.nullable,
+    })
+}
