@@ -53,3 +53,5 @@ module _ (names : Names) (allowed : Bool) (xs : List Expr) (at : ℕ) (front : L
   argument_end past =
       ap (λ (l : List Expr). with front (arguments_typed allowed (standings_in names l) calls)) (drop_of_length-le xs past)
       ∙ ap (λ (exprs : List (Option TypedExpr)). Ok (arguments exprs calls)) (append-nil front)
+
+pub ruleset argument_steps = (with_none, argument_more, argument_stop, argument_end)

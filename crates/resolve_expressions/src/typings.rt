@@ -305,6 +305,7 @@ fn plain_over(
 
 /// Arguments with their types, from left to right.
 #[cycle(typings)]
+#[tactic(auto, using(crate::proofs::Arguments::argument_steps))]
 fn arguments_over(
     alloc: Global,
     names: &Names<'_>,
