@@ -36,37 +36,37 @@ any-map : (has : Expr → Bool) (exprs : List Expr) → list_any (λ b. b) (map 
 any-map has [] = refl
 any-map has (expr ∷ exprs) = ap (λ (b : Bool). has expr || b) (any-map has exprs)
 
-aggregate-Literal : (literal : Literal) → has_aggregate (E.Literal literal) ≡ false
+pub aggregate-Literal : (literal : Literal) → has_aggregate (E.Literal literal) ≡ false
 unfolding has_aggregate
 aggregate-Literal literal = ap has_aggregate (sym (E.rolls-Literal literal)) ∙ fold-roll-Expr Bool has_aggregate_step (F.Literal literal)
 
-aggregate-UnresolvedAttribute : (attribute : UnresolvedAttribute) → has_aggregate (E.UnresolvedAttribute attribute) ≡ false
+pub aggregate-UnresolvedAttribute : (attribute : UnresolvedAttribute) → has_aggregate (E.UnresolvedAttribute attribute) ≡ false
 unfolding has_aggregate
 aggregate-UnresolvedAttribute attribute = ap has_aggregate (sym (E.rolls-UnresolvedAttribute attribute)) ∙ fold-roll-Expr Bool has_aggregate_step (F.UnresolvedAttribute attribute)
 
-aggregate-UnresolvedFunction : (f : UnresolvedFunction Expr) → has_aggregate (E.UnresolvedFunction f) ≡ call_has_aggregate has_aggregate f
+pub aggregate-UnresolvedFunction : (f : UnresolvedFunction Expr) → has_aggregate (E.UnresolvedFunction f) ≡ call_has_aggregate has_aggregate f
 unfolding has_aggregate
 aggregate-UnresolvedFunction f =
     ap has_aggregate (sym (E.rolls-UnresolvedFunction f)) ∙ fold-roll-Expr Bool has_aggregate_step (F.UnresolvedFunction f)
     ∙ ap (λ (b : Bool). is_aggregate_name (function_named f.function_name) || b) (any-map has_aggregate f.arguments)
 
-aggregate-UnresolvedStar : (star : UnresolvedStar) → has_aggregate (E.UnresolvedStar star) ≡ false
+pub aggregate-UnresolvedStar : (star : UnresolvedStar) → has_aggregate (E.UnresolvedStar star) ≡ false
 unfolding has_aggregate
 aggregate-UnresolvedStar star = ap has_aggregate (sym (E.rolls-UnresolvedStar star)) ∙ fold-roll-Expr Bool has_aggregate_step (F.UnresolvedStar star)
 
-aggregate-Alias : (alias : Alias Expr) → has_aggregate (E.Alias alias) ≡ has_aggregate alias.expr
+pub aggregate-Alias : (alias : Alias Expr) → has_aggregate (E.Alias alias) ≡ has_aggregate alias.expr
 unfolding has_aggregate
 aggregate-Alias alias = ap has_aggregate (sym (E.rolls-Alias alias)) ∙ fold-roll-Expr Bool has_aggregate_step (F.Alias alias)
 
-aggregate-Cast : (cast : Cast Expr) → has_aggregate (E.Cast cast) ≡ has_aggregate cast.expr
+pub aggregate-Cast : (cast : Cast Expr) → has_aggregate (E.Cast cast) ≡ has_aggregate cast.expr
 unfolding has_aggregate
 aggregate-Cast cast = ap has_aggregate (sym (E.rolls-Cast cast)) ∙ fold-roll-Expr Bool has_aggregate_step (F.Cast cast)
 
-aggregate-SortOrder : (order : SortOrder Expr) → has_aggregate (E.SortOrder order) ≡ has_aggregate order.child
+pub aggregate-SortOrder : (order : SortOrder Expr) → has_aggregate (E.SortOrder order) ≡ has_aggregate order.child
 unfolding has_aggregate
 aggregate-SortOrder order = ap has_aggregate (sym (E.rolls-SortOrder order)) ∙ fold-roll-Expr Bool has_aggregate_step (F.SortOrder order)
 
-aggregate-Other : (number : ℕ) → has_aggregate (E.Other number) ≡ false
+pub aggregate-Other : (number : ℕ) → has_aggregate (E.Other number) ≡ false
 unfolding has_aggregate
 aggregate-Other number = ap has_aggregate (sym (E.rolls-Other number)) ∙ fold-roll-Expr Bool has_aggregate_step (F.Other number)
 

@@ -3,6 +3,7 @@ pub mod Arguments
 pub mod ExprForms
 pub mod Gathering
 pub mod GroupForms
+pub mod Groups
 pub mod SameForms
 pub mod Standings
 pub mod StarSteps

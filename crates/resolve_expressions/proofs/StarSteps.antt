@@ -1,11 +1,12 @@
 -- The columns that pass, one by one.
-use Rattle.std.proofs.Common.{◌≡◌, ◌≢◌, ℕ, suc, ◌+◌, ◌<◌, ◌≤◌, Bool, true, false, List, [], ◌∷◌, ◌++◌, length, get_or, drop, refl, sym, ap, ◌∙◌, append_assoc, add-one}
-use Rattle.std.specs.Prelude.{Ok}
+use Rattle.std.proofs.Common.{◌≡◌, ◌≢◌, ℕ, suc, ◌+◌, ◌-◌, ◌<◌, ◌≤◌, Bool, true, false, List, [], ◌∷◌, ◌++◌, length, get_or, take, drop, refl, sym, ap, ◌∙◌, append_assoc, add-one}
+use Rattle.std.specs.Prelude.{Ok, bytes_eq, codes, if◌then◌else◌}
 use Rattle.std.proofs.Math.ListN.{drop_of_length-le}
-use Rattle.std.proofs.lemmas.List.{append-nil}
+use Rattle.std.proofs.lemmas.List.{append-nil, take-append-drop}
+use Rattle.std.proofs.lemmas.Slice.Eq.{bytes_eq-Decides}
 use Rattle.resolve_names.specs.declared.scope.ColumnOf.{ColumnOf}
 use Rattle.resolve_expressions.specs.declared.item.Item.{Item}
-use Rattle.resolve_expressions.specs.Stars.{column_item, item_where, items_where, some_items}
+use Rattle.resolve_expressions.specs.Stars.{column_item, item_where, items_where, some_items, target_name}
 use Rattle.resolve_expressions.proofs.Gathering.{drop_next}
 
 module _ {I : Type 0} (passes : ColumnOf I → Bool) (columns : List (ColumnOf I)) (at : ℕ) (items : List Item) where
@@ -30,3 +31,17 @@ module _ {I : Type 0} (passes : ColumnOf I → Bool) (columns : List (ColumnOf I
 pub some_items_there : (identifier : List ℕ) (items : List Item) → items ≢ [] → some_items identifier items ≡ Ok items
 some_items_there identifier [] some = absurd (some refl)
 some_items_there identifier (item ∷ items) some = refl
+
+pub ruleset star_steps = (item_more, item_end)
+
+-- ---- targets without `.*` at their end
+
+pub target_whole : (target : List ℕ) → ((front : List ℕ) → target ≡ front ++ 46 ∷ 42 ∷ [] → ⊥) → target ≡ target_name target
+target_whole target no = by (bytes_eq (drop (length target - 2) target) (codes ".*")) refl
+  where
+    by : (b : Bool) → bytes_eq (drop (length target - 2) target) (codes ".*") ≡ b → target ≡ (if b then take (length target - 2) target else target)
+    by false is = refl
+    by true is =
+        let ends : drop (length target - 2) target ≡ codes ".*" = (bytes_eq-Decides (drop (length target - 2) target) (codes ".*")).0 is in
+        absurd (no (take (length target - 2) target)
+        (sym (take-append-drop (length target - 2) target) ∙ ap (λ (rest : List ℕ). take (length target - 2) target ++ rest) ends))

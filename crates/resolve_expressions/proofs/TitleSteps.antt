@@ -1,7 +1,8 @@
 -- The name of each form of expression, and names piece by piece.
 use Rattle.std.proofs.Common.{◌≡◌, ℕ, zero, suc, ◌+◌, Bool, true, false, cond, List, [], ◌∷◌, ◌++◌, map, length, take, get_or, refl, sym, ap, ◌∙◌, subst, arith, append_assoc, Option, Some, None, ◌<◌}
 use Rattle.std.specs.Prelude.{codes, nat_eq, ◌&&◌, if◌then◌else◌, option_map}
-use Rattle.std.proofs.lemmas.List.{append_cancel_right}
+use Rattle.std.proofs.lemmas.Bool.{ne_eqb}
+use Rattle.std.proofs.lemmas.List.{append-nil, append_cancel_right, length-map, length-take-le, map-append, take_more}
 use Rattle.cn_types.specs.declared.value.Value.{Value}
 use Rattle.cn_types.specs.Printed.{printed, row_line}
 use Rattle.expression_messages.specs.declared.literal.Literal.{Literal}
@@ -24,36 +25,36 @@ module _ (column_name : UnresolvedAttribute → List ℕ) where
   abbrev step : O.Expr-F (List ℕ) → List ℕ
   step = title_step column_name
 
-  title-Literal : (literal : Literal) → name (V.Literal literal) ≡ literal_title literal
+  pub title-Literal : (literal : Literal) → name (V.Literal literal) ≡ literal_title literal
   unfolding title
   title-Literal literal = ap name (sym (V.rolls-Literal literal)) ∙ fold-roll-Expr (List ℕ) step (O.Literal literal)
 
-  title-UnresolvedAttribute : (attribute : UnresolvedAttribute) → name (V.UnresolvedAttribute attribute) ≡ column_name attribute
+  pub title-UnresolvedAttribute : (attribute : UnresolvedAttribute) → name (V.UnresolvedAttribute attribute) ≡ column_name attribute
   unfolding title
   title-UnresolvedAttribute attribute = ap name (sym (V.rolls-UnresolvedAttribute attribute)) ∙ fold-roll-Expr (List ℕ) step (O.UnresolvedAttribute attribute)
 
-  title-UnresolvedFunction : (f : UnresolvedFunction Expr) →
+  pub title-UnresolvedFunction : (f : UnresolvedFunction Expr) →
       name (V.UnresolvedFunction f) ≡ call_title (record { function_name = f.function_name; arguments = map name f.arguments; is_distinct = f.is_distinct })
   unfolding title
   title-UnresolvedFunction f = ap name (sym (V.rolls-UnresolvedFunction f)) ∙ fold-roll-Expr (List ℕ) step (O.UnresolvedFunction f)
 
-  title-UnresolvedStar : (star : UnresolvedStar) → name (V.UnresolvedStar star) ≡ codes "1"
+  pub title-UnresolvedStar : (star : UnresolvedStar) → name (V.UnresolvedStar star) ≡ codes "1"
   unfolding title
   title-UnresolvedStar star = ap name (sym (V.rolls-UnresolvedStar star)) ∙ fold-roll-Expr (List ℕ) step (O.UnresolvedStar star)
 
-  title-Alias : (alias : Alias Expr) → name (V.Alias alias) ≡ name alias.expr
+  pub title-Alias : (alias : Alias Expr) → name (V.Alias alias) ≡ name alias.expr
   unfolding title
   title-Alias alias = ap name (sym (V.rolls-Alias alias)) ∙ fold-roll-Expr (List ℕ) step (O.Alias alias)
 
-  title-Cast : (cast : Cast Expr) → name (V.Cast cast) ≡ name cast.expr
+  pub title-Cast : (cast : Cast Expr) → name (V.Cast cast) ≡ name cast.expr
   unfolding title
   title-Cast cast = ap name (sym (V.rolls-Cast cast)) ∙ fold-roll-Expr (List ℕ) step (O.Cast cast)
 
-  title-SortOrder : (order : SortOrder Expr) → name (V.SortOrder order) ≡ name order.child
+  pub title-SortOrder : (order : SortOrder Expr) → name (V.SortOrder order) ≡ name order.child
   unfolding title
   title-SortOrder order = ap name (sym (V.rolls-SortOrder order)) ∙ fold-roll-Expr (List ℕ) step (O.SortOrder order)
 
-  title-Other : (number : ℕ) → name (V.Other number) ≡ []
+  pub title-Other : (number : ℕ) → name (V.Other number) ≡ []
   unfolding title
   title-Other number = ap name (sym (V.rolls-Other number)) ∙ fold-roll-Expr (List ℕ) step (O.Other number)
 
@@ -87,7 +88,10 @@ module _ {X : Type 0} (t : X → List ℕ) (name : List ℕ) (distinct : Bool) w
   unfolding call_title
   title_negated [] is = cc
   title_negated (x ∷ []) is = negated_one (is_negation name) x is
-  title_negated (x ∷ y ∷ xs) is = cc
+  title_negated (x ∷ y ∷ xs) is =
+      let e : nat_eq (length (x ∷ y ∷ xs)) 1 ≡ false = ne_eqb (length (x ∷ y ∷ xs)) 1 (λ same. omega arith) in
+      let f : false ≡ true = sym (ap (λ (b : Bool). b && is_negation name) e) ∙ is in
+      cc
 
   between_two : (o : Option (List ℕ)) (operator : List ℕ) (x y : X) → option_map spaced o ≡ Some operator →
       operator_title o name distinct (t x ∷ t y ∷ []) ≡ codes "(" ++ joined operator (t x ∷ t y ∷ []) ++ codes ")"
@@ -102,7 +106,10 @@ module _ {X : Type 0} (t : X → List ℕ) (name : List ℕ) (distinct : Bool) w
   title_between [] operator is = cc
   title_between (x ∷ []) operator is = cc
   title_between (x ∷ y ∷ []) operator is = not_one (is_negation name) name distinct (t x) (t y) [] ∙ between_two (operator_of name) operator x y is
-  title_between (x ∷ y ∷ z ∷ xs) operator is = cc
+  title_between (x ∷ y ∷ z ∷ xs) operator is =
+      let e : nat_eq (length (x ∷ y ∷ z ∷ xs)) 2 ≡ false = ne_eqb (length (x ∷ y ∷ z ∷ xs)) 2 (λ same. omega arith) in
+      let f : ◌≡◌ {A = Option (List ℕ)} None (Some operator) = sym (ap (λ (b : Bool). if b then option_map spaced (operator_of name) else None) e) ∙ is in
+      cc
 
   plain_one : (b : Bool) (x : X) → b ≡ false → negation_title b name distinct (t x ∷ []) ≡ plain_title name distinct (t x ∷ [])
   plain_one true x is = cc
@@ -146,6 +153,34 @@ joined_more between (first ∷ next ∷ texts) text =
   where
     regroup : (a b c d e : List ℕ) → ((a ++ (b ++ c)) ++ d) ++ e ≡ a ++ (b ++ ((c ++ d) ++ e))
     regroup a b c d e = simp append_assoc
+
+pub joined_next : (between : List ℕ) (t : Expr → List ℕ) (exprs : List Expr) (at : ℕ) (expr : Expr) → at < length exprs → expr ≡ get_or exprs at expr →
+    joined between (map t (take (at + 1) exprs)) ≡ (joined between (map t (take at exprs)) ++ gap at between) ++ t expr
+joined_next between t exprs at expr within is =
+    let front = map t (take at exprs) in
+    let one : take (at + 1) exprs ≡ take at exprs ++ expr ∷ [] = take_more exprs at expr within ∙ ap (λ (e : Expr). take at exprs ++ e ∷ []) (sym is) in
+    let many : length front ≡ at = length-map (take at exprs) t ∙ length-take-le at exprs (omega arith) in
+    ap (λ (l : List Expr). joined between (map t l)) one
+    ∙ ap (joined between) (map-append t (take at exprs) (expr ∷ []))
+    ∙ joined_more between front (t expr)
+    ∙ ap (λ (n : ℕ). (joined between front ++ gap n between) ++ t expr) many
+
+pub joined_step : (between : List ℕ) (t : Expr → List ℕ) (exprs : List Expr) (at : ℕ) (expr : Expr) (start out gapped new : List ℕ) →
+    at < length exprs → expr ≡ get_or exprs at expr → out ≡ start ++ joined between (map t (take at exprs)) →
+    gapped ≡ out ++ gap at between → new ≡ gapped ++ t expr → new ≡ start ++ joined between (map t (take (at + 1) exprs))
+joined_step between t exprs at expr start out gapped new within is so_far behind more =
+    more
+    ∙ ap (λ (bytes : List ℕ). bytes ++ t expr) (behind ∙ ap (λ (bytes : List ℕ). bytes ++ gap at between) so_far)
+    ∙ regroup start (joined between (map t (take at exprs))) (gap at between) (t expr)
+    ∙ ap (λ (bytes : List ℕ). start ++ bytes) (sym (joined_next between t exprs at expr within is))
+  where
+    regroup : (a b c d : List ℕ) → ((a ++ b) ++ c) ++ d ≡ a ++ ((b ++ c) ++ d)
+    regroup a b c d = simp append_assoc
+
+pub nothing_more : (column_name : UnresolvedAttribute → List ℕ) (number : ℕ) (expr : Expr) (out : List ℕ) →
+    expr ≡ V.Other number → out ≡ out ++ title column_name expr
+nothing_more column_name number expr out is =
+    sym (ap (λ (bytes : List ℕ). out ++ bytes) (ap (title column_name) is ∙ title-Other column_name number) ∙ append-nil out)
 
 -- ---- the line of one value
 

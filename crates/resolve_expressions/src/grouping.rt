@@ -41,7 +41,7 @@ fn calls_aggregate(call: &UnresolvedFunction) -> bool
     if is_aggregate_name(call.function_name.as_str()) {
         return true;
     }
-    any_aggregate(call.arguments.as_slice())
+    any_aggregate(call)
 }
 
 fn is_aggregate_name(name: &str) -> bool
@@ -53,13 +53,14 @@ fn is_aggregate_name(name: &str) -> bool
     }
 }
 
-/// Whether an aggregate function is called in one of the expressions.
+/// Whether an aggregate function is called in one of the arguments.
 #[cycle(aggregates)]
-fn any_aggregate(exprs: &[Expr]) -> bool
-    ensures { result ≡ list_any grouping.has_aggregate exprs.now }
+#[tactic(auto, using(crate::proofs::Gathering::any_steps))]
+fn any_aggregate(call: &UnresolvedFunction) -> bool
+    ensures { result ≡ list_any grouping.has_aggregate call.now.arguments }
 {
-    for expr in exprs {
-        if has_aggregate(expr) {
+    for argument in call.arguments.as_slice() {
+        if has_aggregate(argument) {
             return true;
         }
     }
@@ -72,9 +73,9 @@ fn any_aggregate(exprs: &[Expr]) -> bool
 #[tactic(auto, using(crate::proofs::GroupForms::regrouped_forms))]
 pub fn regrouped(
     alloc: Global,
+    expr: &TypedExpr,
     columns: &[ScopeColumn],
     keys: &[TypedExpr],
-    expr: &TypedExpr,
 ) -> Result<TypedExpr, ResolveStop>
     ensures ok { IfOk result (λ regrouped. grouping.regrouped same.same_expr columns.now keys.now expr.now ≡ Ok regrouped) }
     ensures refused { IfErr result (λ e. e ≢ no_memory → grouping.regrouped same.same_expr columns.now keys.now expr.now ≡ Err e) }
@@ -95,7 +96,7 @@ pub fn regrouped(
             arguments,
             kind,
         } => {
-            let arguments = all_regrouped(alloc, columns, keys, arguments.as_slice())?;
+            let arguments = all_regrouped(alloc, arguments, columns, keys)?;
             Ok(TypedExpr::Call {
                 function: *function,
                 arguments,
@@ -103,7 +104,7 @@ pub fn regrouped(
             })
         }
         TypedExpr::Cast { child, kind } => {
-            let child = regrouped(alloc, columns, keys, child.get())?;
+            let child = regrouped(alloc, child.get(), columns, keys)?;
             Ok(TypedExpr::Cast {
                 child: Boxed::new(alloc, child)?,
                 kind: *kind,
@@ -113,18 +114,19 @@ pub fn regrouped(
 }
 
 #[cycle(regrouped)]
+#[tactic(auto, using(crate::proofs::Gathering::gather_steps))]
 fn all_regrouped(
     alloc: Global,
+    exprs: &List<TypedExpr>,
     columns: &[ScopeColumn],
     keys: &[TypedExpr],
-    exprs: &[TypedExpr],
 ) -> Result<List<TypedExpr>, ResolveStop>
     ensures ok { IfOk result (λ regrouped. grouping.all_checked (map (grouping.regrouped same.same_expr columns.now keys.now) exprs.now) ≡ Ok regrouped) }
     ensures refused { IfErr result (λ e. e ≢ no_memory → grouping.all_checked (map (grouping.regrouped same.same_expr columns.now keys.now) exprs.now) ≡ Err e) }
 {
     let mut made = List::new(alloc);
-    for expr in exprs {
-        match regrouped(alloc, columns, keys, expr) {
+    for expr in exprs.as_slice() {
+        match regrouped(alloc, expr, columns, keys) {
             Ok(expr) => made.push(expr)?,
             Err(stop) => return Err(stop),
         }
@@ -180,7 +182,7 @@ pub fn regrouped_item(
     ensures ok { IfOk result (λ made. grouping.regrouped_item same.same_expr columns.now keys.now item ≡ Ok made) }
     ensures refused { IfErr result (λ e. e ≢ no_memory → grouping.regrouped_item same.same_expr columns.now keys.now item ≡ Err e) }
 {
-    let expr = regrouped(alloc, columns, keys, &item.expr)?;
+    let expr = regrouped(alloc, &item.expr, columns, keys)?;
     Ok(Item {
         name: item.name,
         expr,

@@ -56,7 +56,7 @@ fn is_boolean(kind: DataType) -> bool
 }
 
 /// The keys of a sort.
-#[tactic(auto, unfolding(crate::specs::Outputs::sort_keys_of))]
+#[tactic(auto, unfolding(crate::specs::Outputs::sort_keys_of), using(crate::proofs::Gathering::gather_steps))]
 pub fn sort_keys_of(
     alloc: Global,
     names: &Names<'_>,
@@ -108,6 +108,7 @@ fn has_nulls_last(direction: i32, ordering: i32) -> bool
 }
 
 /// The columns of a projection without aggregate calls: a star is the columns that it means.
+#[tactic(auto, using(crate::proofs::Gathering::project_steps))]
 pub fn projected(
     alloc: Global,
     names: &Names<'_>,
@@ -174,7 +175,7 @@ fn plain_item(alloc: Global, names: &Names<'_>, expr: &Expr) -> Result<Item, Res
 }
 
 /// The expressions that an aggregate groups by.
-#[tactic(auto, unfolding(crate::specs::Outputs::key_items))]
+#[tactic(auto, unfolding(crate::specs::Outputs::key_items), using(crate::proofs::Gathering::gather_steps))]
 pub fn key_items(
     alloc: Global,
     names: &Names<'_>,
@@ -194,7 +195,7 @@ pub fn key_items(
 }
 
 /// The aliases among the columns that are added.
-#[tactic(auto, unfolding(crate::specs::Outputs::added_items))]
+#[tactic(auto, unfolding(crate::specs::Outputs::added_items), using(crate::proofs::Gathering::gather_steps))]
 pub fn added_items(
     alloc: Global,
     names: &Names<'_>,
@@ -224,6 +225,7 @@ fn added_item(alloc: Global, names: &Names<'_>, alias: &Alias) -> Result<Item, R
 
 /// The items of an aggregate with these keys, over the keys' values and behind them the calls' values. The aggregate calls are pushed behind
 /// `calls`. A star is the columns that it means where `stars` says so. After an error nothing is promised of `calls`.
+#[tactic(auto, using(crate::proofs::Groups::group_steps))]
 pub fn grouped(
     alloc: Global,
     names: &Names<'_>,
@@ -303,6 +305,7 @@ fn grouped_item(
     Ok(items)
 }
 
+#[tactic(auto, using(crate::proofs::Gathering::gather_steps))]
 fn regrouped_items(
     alloc: Global,
     columns: &[ScopeColumn],

@@ -86,6 +86,7 @@ fn is_cast(child: &TypedExpr, kind: DataType, other: &TypedExpr) -> bool
 
 /// Whether each is the same as the other at its place, and there are as many.
 #[cycle(same)]
+#[tactic(auto, using(crate::proofs::SameForms::same_steps))]
 fn all_same(exprs: &[TypedExpr], others: &[TypedExpr]) -> bool
     ensures { result ≡ same.all_same (map same.same_expr exprs.now) others.now }
 {

@@ -1,4 +1,4 @@
-ghost use Rattle.std.specs.Prelude.{◌≡◌, ◌≢◌, IfOk, IfErr, Ok, Err, zip};
+ghost use Rattle.std.specs.Prelude.{◌≡◌, ◌≢◌, ◌++◌, IfOk, OnOk, IfErr, Ok, Err, zip};
 ghost use Rattle.std.specs.List.{list_all};
 ghost use Rattle.resolve_names.specs.declared.error.ResolveStop.TheVariants.{OutOfMemory as no_memory};
 ghost use Rattle.resolve_names.specs.Matching.{name_matches};
@@ -42,6 +42,7 @@ fn target_name(target: &str) -> &str
     }
 }
 
+#[tactic(auto, using(crate::proofs::StarSteps::star_steps))]
 fn all_items(alloc: Global, columns: &[ScopeColumn]) -> Result<List<Item>, OutOfMemory>
     ensures { IfOk result (λ items. items ≡ stars.items_where stars.any_column 0 columns.now) }
 {
@@ -82,6 +83,7 @@ fn parts_of(alloc: Global, identifier: &str) -> Result<List<Text>, ResolveStop>
     }
 }
 
+#[tactic(auto, using(crate::proofs::StarSteps::star_steps))]
 fn items_of(
     alloc: Global,
     case_sensitive: bool,
@@ -92,11 +94,25 @@ fn items_of(
 {
     let mut items = List::new(alloc);
     for (place, column) in columns.iter().enumerate() {
-        if has_qualifier(case_sensitive, parts, column.qualifier.as_slice()) {
-            items.push(column_item(alloc, place, column)?)?;
-        }
+        let passes = has_qualifier(case_sensitive, parts, column.qualifier.as_slice());
+        push_where(alloc, &mut items, passes, place, column)?;
     }
     Ok(items)
+}
+
+fn push_where(
+    alloc: Global,
+    items: &mut List<Item>,
+    passes: bool,
+    place: usize,
+    column: &ScopeColumn,
+) -> Result<(), OutOfMemory>
+    ensures { OnOk result (items.new ≡ items.old ++ stars.item_where passes place column.now) }
+{
+    if passes {
+        items.push(column_item(alloc, place, column)?)?;
+    }
+    Ok(())
 }
 
 fn has_qualifier(case_sensitive: bool, parts: &[Text], qualifier: &[Text]) -> bool

@@ -63,12 +63,11 @@ fn push_call(
 ) -> Result<(), OutOfMemory>
     ensures { OnOk result (out.new ≡ out.old ++ titles.call_title (named.titled_call names.now call.now)) }
 {
-    let arguments = call.arguments.as_slice();
     if is_negated(call) {
-        return push_sides(alloc, names, out, "(NOT ", "", arguments);
+        return push_sides(alloc, names, out, "(NOT ", "", call);
     }
     match operator_between(call) {
-        Some(operator) => push_sides(alloc, names, out, "(", operator, arguments),
+        Some(operator) => push_sides(alloc, names, out, "(", operator, call),
         None => push_plain(alloc, names, out, call),
     }
 }
@@ -81,12 +80,12 @@ fn push_sides(
     out: &mut Text,
     before: &str,
     between: &str,
-    sides: &[Expr],
+    call: &UnresolvedFunction,
 ) -> Result<(), OutOfMemory>
-    ensures { OnOk result (out.new ≡ out.old ++ (before.now ++ titles.joined between.now (named.titles_in names.now sides.now) ++ codes ")")) }
+    ensures { OnOk result (out.new ≡ out.old ++ (before.now ++ titles.joined between.now (named.titles_in names.now call.now.arguments) ++ codes ")")) }
 {
     out.append(before)?;
-    push_joined(alloc, names, out, between, sides)?;
+    push_joined(alloc, names, out, between, call)?;
     out.append(")")
 }
 
@@ -102,7 +101,7 @@ fn push_plain(
     let name = call.function_name.as_str().to_ascii_lowercase(alloc)?;
     out.append(name.as_str())?;
     out.append(opening(call.is_distinct))?;
-    push_joined(alloc, names, out, ", ", call.arguments.as_slice())?;
+    push_joined(alloc, names, out, ", ", call)?;
     out.append(")")
 }
 
@@ -113,20 +112,21 @@ fn opening(distinct: bool) -> &'static str
     if distinct { "(DISTINCT " } else { "(" }
 }
 
-/// The names of expressions with a text between each two.
+/// The names of a call's arguments with a text between each two.
 #[cycle(titles)]
+#[tactic(auto, using(crate::proofs::TitleSteps::joined_next))]
 fn push_joined(
     alloc: Global,
     names: &Names<'_>,
     out: &mut Text,
     between: &str,
-    exprs: &[Expr],
+    call: &UnresolvedFunction,
 ) -> Result<(), OutOfMemory>
-    ensures { OnOk result (out.new ≡ out.old ++ titles.joined between.now (named.titles_in names.now exprs.now)) }
+    ensures { OnOk result (out.new ≡ out.old ++ titles.joined between.now (named.titles_in names.now call.now.arguments)) }
 {
-    for (place, expr) in exprs.iter().enumerate() {
+    for (place, argument) in call.arguments.as_slice().iter().enumerate() {
         push_gap(out, place, between)?;
-        push_title(alloc, names, out, expr)?;
+        push_title(alloc, names, out, argument)?;
     }
     Ok(())
 }
