@@ -4,6 +4,7 @@ pub mod ExprForms
 pub mod Gathering
 pub mod GroupForms
 pub mod Groups
+pub mod SameFacts
 pub mod SameForms
 pub mod Standings
 pub mod StarSteps

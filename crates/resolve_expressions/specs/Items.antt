@@ -1,5 +1,5 @@
 -- The columns that expressions make: their names, types and whether they may be null.
-use Rattle.std.specs.Prelude.{ℕ, ◌-◌, Bool, true, false, not, nat_lt, if◌then◌else◌, List, [], ◌∷◌, length, slice_get, Option, Some, None, Ok, Err, codes, unwrap_or, option_map}
+use Rattle.std.specs.Prelude.{ℕ, nat_eq, ◌-◌, Bool, true, false, not, nat_lt, if◌then◌else◌, List, [], ◌∷◌, length, slice_get, Option, Some, None, Ok, Err, codes, unwrap_or, option_map}
 use Rattle.cn_types.specs.declared.value.Value.{Value}
 use Rattle.expression_messages.specs.declared.expression.Alias.{Alias}
 use Rattle.expression_messages.specs.declared.expression.UnresolvedAttribute.{UnresolvedAttribute}
@@ -13,6 +13,7 @@ use Rattle.plan_model.specs.declared.node.AggregateCall.{AggregateCall}
 use Rattle.plan_model.specs.NodeTypes.{kind_of}
 use Rattle.plan_model.specs.Truth.{is_present}
 use Rattle.resolve_names.specs.declared.scope.ColumnOf.{ColumnOf}
+use Rattle.resolve_names.specs.declared.scope.Scope.{Scope}
 use Rattle.resolve_names.specs.declared.scope.Tagged.{Tagged}
 use Rattle.resolve_names.specs.Checks.{Checked, ◌>>=◌, or_refused, refused}
 use Rattle.resolve_names.specs.Scopes.{attribute_at}
@@ -81,14 +82,34 @@ one_name names = refused (meaningless 6)
 abbrev pub name_in : {I : Type 0} → List (ColumnOf I) → ℕ → List ℕ
 name_in columns place = unwrap_or (option_map (λ column. column.name) (slice_get columns place)) []
 
+abbrev pub name_at : {I : Type 0} → List (ColumnOf I) → Checked ℕ → List ℕ
+name_at columns (Ok place) = name_in columns place
+name_at columns (Err stop) = []
+
+-- ---- names where it is not known whether case counts
+
+-- the one column that an identifier names, without a plan id
+abbrev pub alone_at : Bool → List (ColumnOf ℕ) → List ℕ → Checked ℕ
+alone_at exact columns identifier = attribute_at nat_eq exact columns [] identifier None
+
+abbrev pub first_found : Checked ℕ → Checked ℕ → Checked ℕ
+first_found (Ok place) other = Ok place
+first_found (Err stop) other = other
+
+-- the one column that matches in either case, or where there is not one, the one that matches exactly
+unfoldable pub either_title : List (ColumnOf ℕ) → UnresolvedAttribute → List ℕ
+either_title columns attribute =
+    name_at columns (first_found (alone_at false columns attribute.unparsed_identifier) (alone_at true columns attribute.unparsed_identifier))
+
+abbrev pub name_of : Expr → Scope → List ℕ
+name_of expr scope = title (either_title scope.0) expr
+
+-- ---- items
+
 module _ {I : Type 0} (same : I → I → Bool) (exact : Bool) (columns : List (ColumnOf I)) (relations : List (Tagged I)) where
   -- the name of the column that an attribute names
-  abbrev pub name_at : Checked ℕ → List ℕ
-  name_at (Ok place) = name_in columns place
-  name_at (Err stop) = []
-
   unfoldable pub attribute_title : UnresolvedAttribute → List ℕ
-  attribute_title attribute = name_at (attribute_at same exact columns relations attribute.unparsed_identifier attribute.plan_id)
+  attribute_title attribute = name_at columns (attribute_at same exact columns relations attribute.unparsed_identifier attribute.plan_id)
 
   -- an expression under a name: it has a type
   abbrev pub typed_item : List ℕ → Bool → Expr → Bool → List AggregateCall → Checked Itemized

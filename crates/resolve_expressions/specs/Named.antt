@@ -14,7 +14,8 @@ use Rattle.plan_model.specs.declared.node.SortKey.{SortKey}
 use Rattle.resolve_names.specs.Checks.{Checked}
 use Rattle.resolve_expressions.specs.declared.item.Item.{Item}
 use Rattle.resolve_expressions.specs.declared.names.Names.{Names}
-use Rattle.resolve_expressions.specs.Items.{Itemized, attribute_title, item_by, item_of, typed_item}
+use Rattle.resolve_expressions.specs.declared.titles.Reading.{Reading}
+use Rattle.resolve_expressions.specs.Items.{Itemized, attribute_title, either_title, item_by, item_of, typed_item}
 use Rattle.resolve_expressions.specs.Outputs.{Grouped, added_item, added_items, condition_of, grouped, grouped_by, grouped_item, grouped_star, key_items, plain_item, projected, projected_by, sort_key_of, sort_keys_of, value_of}
 use Rattle.resolve_expressions.specs.Stars.{star_items}
 use Rattle.resolve_expressions.specs.Titles.{title}
@@ -63,11 +64,18 @@ title_in names = title (attribute_title nat_eq names.case_sensitive names.column
 abbrev pub attribute_title_in : Names → UnresolvedAttribute → List ℕ
 attribute_title_in names = attribute_title nat_eq names.case_sensitive names.columns.now names.relations.now
 
-abbrev pub titles_in : Names → List Expr → List (List ℕ)
-titles_in names exprs = map (title_in names) exprs
+abbrev pub column_title : Reading → UnresolvedAttribute → List ℕ
+column_title (Reading.Names names) = attribute_title_in names
+column_title (Reading.EitherCase columns) = either_title columns.now
 
-abbrev pub titled_call : Names → UnresolvedFunction Expr → UnresolvedFunction (List ℕ)
-titled_call names f = record { function_name = f.function_name; arguments = titles_in names f.arguments; is_distinct = f.is_distinct }
+abbrev pub title_by : Reading → Expr → List ℕ
+title_by reading = title (column_title reading)
+
+abbrev pub titles_by : Reading → List Expr → List (List ℕ)
+titles_by reading exprs = map (title_by reading) exprs
+
+abbrev pub call_titled : Reading → UnresolvedFunction Expr → UnresolvedFunction (List ℕ)
+call_titled reading f = record { function_name = f.function_name; arguments = titles_by reading f.arguments; is_distinct = f.is_distinct }
 
 abbrev pub typed_item_in : Names → List ℕ → Bool → Expr → Bool → List AggregateCall → Checked Itemized
 typed_item_in names = typed_item nat_eq names.case_sensitive names.columns.now names.relations.now

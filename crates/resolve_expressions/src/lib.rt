@@ -4,6 +4,7 @@
 mod grouping;
 mod item;
 mod items;
+mod laws;
 mod names;
 mod outputs;
 mod same;
@@ -16,10 +17,12 @@ mod typings;
 pub use grouping::{has_aggregate, regrouped, regrouped_item};
 pub use item::Item;
 pub use items::item_of;
+pub use laws::same_expressions_are_equal;
 pub use names::Names;
 pub use outputs::{
     added_items, condition_of, grouped, key_items, projected, sort_keys_of, value_of,
 };
 pub use same::same_expr;
 pub use stars::star_items;
+pub use titles::{name_of, title_of};
 pub use typings::typed_over;

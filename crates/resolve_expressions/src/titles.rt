@@ -1,4 +1,4 @@
-ghost use Rattle.std.specs.Prelude.{◌≡◌, ◌++◌, IfOk, OnOk, codes, option_map};
+ghost use Rattle.std.specs.Prelude.{◌≡◌, ◌++◌, IfOk, OnOk, codes, option_map, true};
 ghost use Rattle.std.specs.Option.{option_copied};
 ghost use Rattle.cn_types.specs.Fit.{HasDateInRange};
 ghost use Rattle.cn_types.specs.Printed as prints;
@@ -13,7 +13,7 @@ use cn_types::{Row, Value, row_text};
 use expression_messages::{Expr, Literal, UnresolvedAttribute, UnresolvedFunction};
 use plan_model::Function;
 use resolve_functions::function_named;
-use resolve_names::{ResolveStop, ScopeColumn, attribute_place};
+use resolve_names::{ResolveStop, Scope, ScopeColumn, attribute_place};
 use std::alloc::Global;
 
 /// 0001-01-01 and 9999-12-31 (ISO 8601), in days from 1970-01-01.
@@ -27,28 +27,52 @@ pub fn title_of(alloc: Global, names: &Names<'_>, expr: &Expr) -> Result<Text, O
     ensures { IfOk result (λ t. t ≡ named.title_in names.now expr.now) }
 {
     let mut out = Text::new(alloc);
-    push_title(alloc, names, &mut out, expr)?;
+    push_title(alloc, &Reading::Names(*names), &mut out, expr)?;
     Ok(out)
+}
+
+/// The name of the column that an expression without an alias makes, where it is not known whether case counts. An attribute, whose plan
+/// id is not looked at, names the one column that matches in either case, or where there is not one, the one that matches exactly.
+pub fn name_of(alloc: Global, expr: &Expr, scope: &Scope) -> Result<Text, OutOfMemory>
+    ensures { IfOk result (λ t. t ≡ items.name_of expr.now scope.now) }
+{
+    let mut out = Text::new(alloc);
+    push_title(
+        alloc,
+        &Reading::EitherCase(scope.0.as_slice()),
+        &mut out,
+        expr,
+    )?;
+    Ok(out)
+}
+
+/// How attributes are read where an expression is named.
+#[derive(Clone, Copy, Debug)]
+pub(crate) enum Reading<'a> {
+    /// As where it has a type.
+    Names(Names<'a>),
+    /// In either case, or else exactly.
+    EitherCase(&'a [ScopeColumn]),
 }
 
 #[cycle(titles)]
 #[tactic(auto, using(crate::proofs::TitleSteps::title_forms))]
 fn push_title(
     alloc: Global,
-    names: &Names<'_>,
+    reading: &Reading<'_>,
     out: &mut Text,
     expr: &Expr,
 ) -> Result<(), OutOfMemory>
-    ensures { OnOk result (out.new ≡ out.old ++ named.title_in names.now expr.now) }
+    ensures { OnOk result (out.new ≡ out.old ++ named.title_by reading.now expr.now) }
 {
     match expr {
         Expr::Literal(literal) => push_literal(alloc, out, literal),
-        Expr::UnresolvedAttribute(attribute) => push_attribute(alloc, names, out, attribute),
-        Expr::UnresolvedFunction(call) => push_call(alloc, names, out, call),
+        Expr::UnresolvedAttribute(attribute) => push_attribute(alloc, reading, out, attribute),
+        Expr::UnresolvedFunction(call) => push_call(alloc, reading, out, call),
         Expr::UnresolvedStar(_) => out.append("1"),
-        Expr::Alias(alias) => push_title(alloc, names, out, alias.expr.get()),
-        Expr::Cast(cast) => push_title(alloc, names, out, cast.expr.get()),
-        Expr::SortOrder(order) => push_title(alloc, names, out, order.child.get()),
+        Expr::Alias(alias) => push_title(alloc, reading, out, alias.expr.get()),
+        Expr::Cast(cast) => push_title(alloc, reading, out, cast.expr.get()),
+        Expr::SortOrder(order) => push_title(alloc, reading, out, order.child.get()),
         Expr::Other(_) => Ok(()),
     }
 }
@@ -57,18 +81,18 @@ fn push_title(
 #[tactic(auto, unfolding(crate::specs::Titles::call_title), using(crate::proofs::TitleSteps::call_forms))]
 fn push_call(
     alloc: Global,
-    names: &Names<'_>,
+    reading: &Reading<'_>,
     out: &mut Text,
     call: &UnresolvedFunction,
 ) -> Result<(), OutOfMemory>
-    ensures { OnOk result (out.new ≡ out.old ++ titles.call_title (named.titled_call names.now call.now)) }
+    ensures { OnOk result (out.new ≡ out.old ++ titles.call_title (named.call_titled reading.now call.now)) }
 {
     if is_negated(call) {
-        return push_sides(alloc, names, out, "(NOT ", "", call);
+        return push_sides(alloc, reading, out, "(NOT ", "", call);
     }
     match operator_between(call) {
-        Some(operator) => push_sides(alloc, names, out, "(", operator, call),
-        None => push_plain(alloc, names, out, call),
+        Some(operator) => push_sides(alloc, reading, out, "(", operator, call),
+        None => push_plain(alloc, reading, out, call),
     }
 }
 
@@ -76,32 +100,32 @@ fn push_call(
 #[cycle(titles)]
 fn push_sides(
     alloc: Global,
-    names: &Names<'_>,
+    reading: &Reading<'_>,
     out: &mut Text,
     before: &str,
     between: &str,
     call: &UnresolvedFunction,
 ) -> Result<(), OutOfMemory>
-    ensures { OnOk result (out.new ≡ out.old ++ (before.now ++ titles.joined between.now (named.titles_in names.now call.now.arguments) ++ codes ")")) }
+    ensures { OnOk result (out.new ≡ out.old ++ (before.now ++ titles.joined between.now (named.titles_by reading.now call.now.arguments) ++ codes ")")) }
 {
     out.append(before)?;
-    push_joined(alloc, names, out, between, call)?;
+    push_joined(alloc, reading, out, between, call)?;
     out.append(")")
 }
 
 #[cycle(titles)]
 fn push_plain(
     alloc: Global,
-    names: &Names<'_>,
+    reading: &Reading<'_>,
     out: &mut Text,
     call: &UnresolvedFunction,
 ) -> Result<(), OutOfMemory>
-    ensures { OnOk result (out.new ≡ out.old ++ titles.plain_title call.now.function_name call.now.is_distinct (named.titles_in names.now call.now.arguments)) }
+    ensures { OnOk result (out.new ≡ out.old ++ titles.plain_title call.now.function_name call.now.is_distinct (named.titles_by reading.now call.now.arguments)) }
 {
     let name = call.function_name.as_str().to_ascii_lowercase(alloc)?;
     out.append(name.as_str())?;
     out.append(opening(call.is_distinct))?;
-    push_joined(alloc, names, out, ", ", call)?;
+    push_joined(alloc, reading, out, ", ", call)?;
     out.append(")")
 }
 
@@ -117,16 +141,16 @@ fn opening(distinct: bool) -> &'static str
 #[tactic(auto, using(crate::proofs::TitleSteps::joined_next))]
 fn push_joined(
     alloc: Global,
-    names: &Names<'_>,
+    reading: &Reading<'_>,
     out: &mut Text,
     between: &str,
     call: &UnresolvedFunction,
 ) -> Result<(), OutOfMemory>
-    ensures { OnOk result (out.new ≡ out.old ++ titles.joined between.now (named.titles_in names.now call.now.arguments)) }
+    ensures { OnOk result (out.new ≡ out.old ++ titles.joined between.now (named.titles_by reading.now call.now.arguments)) }
 {
     for (place, argument) in call.arguments.as_slice().iter().enumerate() {
         push_gap(out, place, between)?;
-        push_title(alloc, names, out, argument)?;
+        push_title(alloc, reading, out, argument)?;
     }
     Ok(())
 }
@@ -180,8 +204,22 @@ fn operator_of(name: &str) -> Option<&'static str>
 }
 
 /// The name of the column that an attribute names, where it names one.
-#[tactic(auto, unfolding(crate::specs::Items::attribute_title))]
 fn push_attribute(
+    alloc: Global,
+    reading: &Reading<'_>,
+    out: &mut Text,
+    attribute: &UnresolvedAttribute,
+) -> Result<(), OutOfMemory>
+    ensures { OnOk result (out.new ≡ out.old ++ named.column_title reading.now attribute.now) }
+{
+    match reading {
+        Reading::Names(names) => push_named(alloc, names, out, attribute),
+        Reading::EitherCase(columns) => push_either(alloc, columns, out, attribute),
+    }
+}
+
+#[tactic(auto, unfolding(crate::specs::Items::attribute_title))]
+fn push_named(
     alloc: Global,
     names: &Names<'_>,
     out: &mut Text,
@@ -198,6 +236,38 @@ fn push_attribute(
         attribute.plan_id,
     ) {
         Ok(place) => push_name_at(out, names.columns, place),
+        Err(ResolveStop::Analysis(_)) => Ok(()),
+        Err(ResolveStop::OutOfMemory) => Err(OutOfMemory),
+    }
+}
+
+#[tactic(auto, unfolding(crate::specs::Items::either_title))]
+fn push_either(
+    alloc: Global,
+    columns: &[ScopeColumn],
+    out: &mut Text,
+    attribute: &UnresolvedAttribute,
+) -> Result<(), OutOfMemory>
+    ensures { OnOk result (out.new ≡ out.old ++ items.either_title columns.now attribute.now) }
+{
+    let identifier = attribute.unparsed_identifier.as_str();
+    match attribute_place(alloc, false, columns, &[], identifier, None) {
+        Ok(place) => push_name_at(out, columns, place),
+        Err(ResolveStop::Analysis(_)) => push_exact(alloc, columns, out, identifier),
+        Err(ResolveStop::OutOfMemory) => Err(OutOfMemory),
+    }
+}
+
+fn push_exact(
+    alloc: Global,
+    columns: &[ScopeColumn],
+    out: &mut Text,
+    identifier: &str,
+) -> Result<(), OutOfMemory>
+    ensures { OnOk result (out.new ≡ out.old ++ items.name_at columns.now (items.alone_at true columns.now identifier.now)) }
+{
+    match attribute_place(alloc, true, columns, &[], identifier, None) {
+        Ok(place) => push_name_at(out, columns, place),
         Err(ResolveStop::Analysis(_)) => Ok(()),
         Err(ResolveStop::OutOfMemory) => Err(OutOfMemory),
     }
