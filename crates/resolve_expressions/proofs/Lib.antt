@@ -9,3 +9,4 @@ pub mod SameForms
 pub mod Standings
 pub mod StarSteps
 pub mod TitleSteps
+pub mod TypedFacts

@@ -17,7 +17,10 @@ mod typings;
 pub use grouping::{has_aggregate, regrouped, regrouped_item};
 pub use item::Item;
 pub use items::item_of;
-pub use laws::same_expressions_are_equal;
+pub use laws::{
+    conditions_are_well_formed, same_expressions_are_equal, typed_expressions_are_well_formed,
+    values_are_well_formed,
+};
 pub use names::Names;
 pub use outputs::{
     added_items, condition_of, grouped, key_items, projected, sort_keys_of, value_of,
