@@ -135,18 +135,18 @@ module _ {I : Type 0} (same : TypedExpr → TypedExpr → Bool) (columns : List 
   abbrev Keyed : TypedExpr → Checked TypedExpr → Type 0
   Keyed expr otherwise = over expr ≡ key_or (key_of expr) expr otherwise
 
-  keyed-Column : (place : ℕ) (kind : DataType) → Keyed (V.Column place kind) (ungrouped (slice_get columns place) (length columns) (length keys) place kind)
+  pub keyed-Column : (place : ℕ) (kind : DataType) → Keyed (V.Column place kind) (ungrouped (slice_get columns place) (length columns) (length keys) place kind)
   unfolding regrouped
   keyed-Column place kind = ap (λ (r : Regrouped). r.grouped) (found-Column place kind)
 
-  keyed-Literal : (value : Value) (kind : DataType) → Keyed (V.Literal value kind) (Ok (V.Literal value kind))
+  pub keyed-Literal : (value : Value) (kind : DataType) → Keyed (V.Literal value kind) (Ok (V.Literal value kind))
   unfolding regrouped
   keyed-Literal value kind = ap (λ (r : Regrouped). r.grouped) (found-Literal value kind)
 
   abbrev called : Function → DataType → List (Checked TypedExpr) → Checked TypedExpr
   called function kind found = all_checked found >>= λ exprs. Ok (V.Call function exprs kind)
 
-  keyed-Call : (function : Function) (arguments : List TypedExpr) (kind : DataType) →
+  pub keyed-Call : (function : Function) (arguments : List TypedExpr) (kind : DataType) →
       Keyed (V.Call function arguments kind) (called function kind (map over arguments))
   unfolding regrouped
   keyed-Call function arguments kind =
@@ -157,7 +157,7 @@ module _ {I : Type 0} (same : TypedExpr → TypedExpr → Bool) (columns : List 
   abbrev cast : DataType → Checked TypedExpr → Checked TypedExpr
   cast kind child = child >>= λ expr. Ok (V.Cast expr kind)
 
-  keyed-Cast : (child : TypedExpr) (kind : DataType) → Keyed (V.Cast child kind) (cast kind (over child))
+  pub keyed-Cast : (child : TypedExpr) (kind : DataType) → Keyed (V.Cast child kind) (cast kind (over child))
   unfolding regrouped
   keyed-Cast child kind =
       ap (λ (r : Regrouped). r.grouped) (found-Cast child kind)

@@ -2,6 +2,7 @@
 pub mod Arguments
 pub mod ExprForms
 pub mod Gathering
+pub mod GroupFacts
 pub mod GroupForms
 pub mod Groups
 pub mod SameFacts

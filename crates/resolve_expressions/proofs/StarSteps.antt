@@ -37,11 +37,11 @@ pub ruleset star_steps = (item_more, item_end)
 -- ---- targets without `.*` at their end
 
 pub target_whole : (target : List ℕ) → ((front : List ℕ) → target ≡ front ++ 46 ∷ 42 ∷ [] → ⊥) → target ≡ target_name target
-target_whole target no = by (bytes_eq (drop (length target - 2) target) (codes ".*")) refl
+target_whole target never = by (bytes_eq (drop (length target - 2) target) (codes ".*")) refl
   where
     by : (b : Bool) → bytes_eq (drop (length target - 2) target) (codes ".*") ≡ b → target ≡ (if b then take (length target - 2) target else target)
     by false is = refl
     by true is =
         let ends : drop (length target - 2) target ≡ codes ".*" = (bytes_eq-Decides (drop (length target - 2) target) (codes ".*")).0 is in
-        absurd (no (take (length target - 2) target)
+        absurd (never (take (length target - 2) target)
         (sym (take-append-drop (length target - 2) target) ∙ ap (λ (rest : List ℕ). take (length target - 2) target ++ rest) ends))

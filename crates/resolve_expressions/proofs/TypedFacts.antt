@@ -42,10 +42,10 @@ use Rattle.resolve_expressions.specs.Typings.{Arguments, Standing, Typing, aggre
 
 -- ---- chains of checks
 
-same_ok : {A : Type 0} (a b : A) → ◌≡◌ {A = Checked A} (Ok a) (Ok b) → a ≡ b
+pub same_ok : {A : Type 0} (a b : A) → ◌≡◌ {A = Checked A} (Ok a) (Ok b) → a ≡ b
 same_ok a b e = cc
 
-bind_ok : {A B : Type 0} (o : Checked A) (k : A → Checked B) (y : B) → (o >>= k) ≡ Ok y → (x : A) × (o ≡ Ok x) × (k x ≡ Ok y)
+pub bind_ok : {A B : Type 0} (o : Checked A) (k : A → Checked B) (y : B) → (o >>= k) ≡ Ok y → (x : A) × (o ≡ Ok x) × (k x ≡ Ok y)
 bind_ok (Ok x) k y e = (x, refl, e)
 bind_ok (Err stop) k y e = absurd (let h : ⊥ = cc in h)
 
@@ -55,12 +55,12 @@ found_ok why None x e = absurd (let h : ⊥ = cc in h)
 
 -- ---- over more columns
 
-get_more : {X : Type 0} (xs more : List X) (at : ℕ) (x : X) → slice_get xs at ≡ Some x → slice_get (xs ++ more) at ≡ Some x
+pub get_more : {X : Type 0} (xs more : List X) (at : ℕ) (x : X) → slice_get xs at ≡ Some x → slice_get (xs ++ more) at ≡ Some x
 get_more [] more at x is = absurd (let h : ⊥ = cc in h)
 get_more (y ∷ ys) more zero x is = is
 get_more (y ∷ ys) more (suc at) x is = get_more ys more at x is
 
-get_behind : {X : Type 0} (xs ys : List X) (n at : ℕ) → at ≡ length xs + n → slice_get (xs ++ ys) at ≡ slice_get ys n
+pub get_behind : {X : Type 0} (xs ys : List X) (n at : ℕ) → at ≡ length xs + n → slice_get (xs ++ ys) at ≡ slice_get ys n
 get_behind [] ys n at is = let e : at ≡ n = omega arith in ap (slice_get ys) e
 get_behind (x ∷ xs) ys n zero is = absurd (let h : ⊥ = omega arith in h)
 get_behind (x ∷ xs) ys n (suc at) is = get_behind xs ys n at (omega arith)

@@ -5,10 +5,12 @@ use Rattle.cn_types.specs.declared.value.DataType.{DataType}
 use Rattle.expression_messages.specs.declared.expression.Expr.{Expr}
 use Rattle.plan_model.specs.declared.expression.TypedExpr.{TypedExpr}
 use Rattle.plan_model.specs.declared.node.AggregateCall.{AggregateCall}
+use Rattle.plan_model.specs.NodeTypes.{kind_of, kinds_of}
 use Rattle.plan_model.specs.WellFormed.{IsCallOver, IsCondition, IsOver}
 use Rattle.resolve_names.specs.declared.scope.ColumnOf.{ColumnOf}
 use Rattle.resolve_names.specs.declared.scope.Tagged.{Tagged}
 use Rattle.resolve_types.specs.Laws.{IsTypingOver}
+use Rattle.resolve_expressions.specs.Grouping.{regrouped}
 use Rattle.resolve_expressions.specs.Outputs.{condition_of, value_of}
 use Rattle.resolve_expressions.specs.Same.{same_expr}
 use Rattle.resolve_expressions.specs.Typings.{Typing, typed_over}
@@ -42,3 +44,10 @@ abbrev pub ConditionsAreWellFormed : Type 0
 ConditionsAreWellFormed =
     (exact : Bool) (columns : List (ColumnOf ℕ)) (relations : List (Tagged ℕ)) (what : List ℕ) (expr : Expr) (typed : TypedExpr) →
     condition_of nat_eq exact columns relations what expr ≡ Ok typed → IsCondition (column_kinds columns) typed
+
+-- an item over keys and calls is over the keys' types and behind them the calls', and keeps its type
+abbrev pub RegroupedIsWellFormed : Type 0
+RegroupedIsWellFormed =
+    (columns : List (ColumnOf ℕ)) (keys : List TypedExpr) (kinds : List DataType) (expr made : TypedExpr) →
+    IsOver (column_kinds columns ++ kinds) expr → regrouped same_expr columns keys expr ≡ Ok made →
+    IsOver (kinds_of keys ++ kinds) made × (kind_of made ≡ kind_of expr)

@@ -1,4 +1,4 @@
-ghost use Rattle.resolve_expressions.specs.Laws.{SameIsEqual, TypedIsWellFormed, ValuesAreWellFormed, ConditionsAreWellFormed};
+ghost use Rattle.resolve_expressions.specs.Laws.{SameIsEqual, TypedIsWellFormed, ValuesAreWellFormed, ConditionsAreWellFormed, RegroupedIsWellFormed};
 
 /// Law: two expressions are the same exactly where they are equal.
 pub fn same_expressions_are_equal()
@@ -18,4 +18,9 @@ pub fn values_are_well_formed()
 /// Law: a condition is well formed over the columns' types, and boolean.
 pub fn conditions_are_well_formed()
     ensures { ConditionsAreWellFormed }
+{}
+
+/// Law: what is put over keys and calls is well formed over the keys' types and behind them the calls', and keeps its type.
+pub fn regrouped_expressions_are_well_formed()
+    ensures { RegroupedIsWellFormed }
 {}

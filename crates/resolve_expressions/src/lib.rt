@@ -18,8 +18,8 @@ pub use grouping::{has_aggregate, regrouped, regrouped_item};
 pub use item::Item;
 pub use items::item_of;
 pub use laws::{
-    conditions_are_well_formed, same_expressions_are_equal, typed_expressions_are_well_formed,
-    values_are_well_formed,
+    conditions_are_well_formed, regrouped_expressions_are_well_formed, same_expressions_are_equal,
+    typed_expressions_are_well_formed, values_are_well_formed,
 };
 pub use names::Names;
 pub use outputs::{

@@ -13,4 +13,4 @@ push_joined-loop-place-preserved t c =
     within is c.loop-place.invariant c.in_ok-push_gap.ensures c.in_ok-push_title.ensures
 
 pub push_title-returns-in-Other : goal.push_title-returns-in-Other
-push_title-returns-in-Other t c = nothing_more (attribute_title_by c.args.reading.now) c.in-Other.field-0 c.args.expr.now c.args.out.now c.in-Other.is
+push_title-returns-in-Other t c = nothing_more (column_title c.args.reading.now) c.in-Other.field-0 c.args.expr.now c.args.out.now c.in-Other.is
