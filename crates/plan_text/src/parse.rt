@@ -10,7 +10,7 @@ ghost use Rattle.plan_text.specs.Pipelines.{ATextIsOnePlan, IsPlanOf, IsTooDeep,
 use crate::draft::Draft;
 use crate::heights::plan_height;
 use crate::makers::no_relation;
-use cn_base::OutOfMemory;
+use cn_base::{Boxed, OutOfMemory};
 use plan_grammar::{Deed, GrammarFault, derivation};
 use plan_messages::{Command, Plan, SaveTable, WriteOperation};
 use std::alloc::Global;
@@ -84,20 +84,21 @@ fn plan_of_draft(draft: Draft) -> Plan
     }
 }
 
-/// The plan of a text, unless its spelling is too long.
-fn allowed(plan: Plan) -> Result<Plan, TextFault>
+/// The plan of a text, unless its spelling is too long. It is measured where it is held by a pointer, since a plan is large.
+fn allowed(alloc: Global, plan: Plan) -> Result<Plan, TextFault>
     ensures same { IfOk result (λ allowed. allowed ≡ plan) }
     ensures spelled { IfOk result (λ allowed. size_of (plan_fields allowed) ≤ 67000000) }
     ensures too_long { (limit : ℕ) → result ≡ Err (TextFault.TooLong limit) → (limit ≡ 67000000) × (67000000 < size_of (plan_fields plan)) }
     ensures too_deep { (at : ℕ) → result ≢ Err (TextFault.TooDeep at) }
     ensures unexpected { (at : ℕ) → result ≢ Err (TextFault.Unexpected at) }
 {
-    if plan.spelled() > LONGEST_SPELLING {
+    let held = Boxed::new(alloc, plan)?;
+    if held.get().spelled() > LONGEST_SPELLING {
         return Err(TextFault::TooLong {
             limit: LONGEST_SPELLING,
         });
     }
-    Ok(plan)
+    Ok(held.into_inner())
 }
 
 /// The plan of a text's deeds.
@@ -115,7 +116,7 @@ fn plan_of_deeds(alloc: Global, deeds: &[Deed], length: u64) -> Result<Plan, Tex
         return Err(TextFault::TooDeep { at: length });
     }
     let draft = draft_of(alloc, deeds)?;
-    allowed(plan_of_draft(draft))
+    allowed(alloc, plan_of_draft(draft))
 }
 
 /// Reads a pipeline text as a plan.
