@@ -1,0 +1,3 @@
+-- Facts for the rules of relations.
+pub mod Numbered
+pub mod TwinFacts
