@@ -2,13 +2,9 @@
 use Rattle.std.proofs.Common.{◌≡◌, ℕ, suc, ◌+◌, ◌<◌, ◌≤◌, List, [], ◌∷◌, ◌++◌, map, length, get_or, drop, sym, ap, ◌∙◌, append_assoc, add-one}
 use Rattle.std.proofs.Math.ListN.{drop_of_length-le}
 use Rattle.std.proofs.lemmas.List.{append-nil}
-use Rattle.std.specs.Prelude.{Bool, true, false, cond, filter, Ok, Err}
-use Rattle.resolve_names.specs.declared.error.ResolveStop.{ResolveStop}
-use Rattle.resolve_names.specs.Checks.{Checked, ◌>>=◌}
-use Rattle.resolve_expressions.specs.Grouping.{all_checked}
-use Rattle.resolve_expressions.proofs.Gathering.{behind, behind_more, behind_none, drop_next}
+use Rattle.std.specs.Prelude.{Bool, true, false, cond, filter}
+use Rattle.resolve_expressions.proofs.Gathering.{drop_next}
 use Rattle.resolve_relations.specs.Columns.{numbered_from}
-use Rattle.resolve_relations.specs.Keeping.{its_place}
 
 module _ {X Y : Type 0} (make : ℕ → X → Y) (xs : List X) (at : ℕ) where
   rest-next : (x : X) → at < length xs → x ≡ get_or xs at x → numbered_from make at (drop at xs) ≡ make at x ∷ numbered_from make (at + 1) (drop (at + 1) xs)
@@ -43,62 +39,6 @@ module _ {X Y : Type 0} (make : X → Y) (xs : List X) (at : ℕ) where
   map_end front past = ap (λ (l : List X). front ++ map make l) (drop_of_length-le xs past) ∙ append-nil front
 
 pub ruleset map_steps = (map_more, map_end)
-
--- ---- with checks, up to the first error
-
-module _ {A X : Type 0} (f : ℕ → A → Checked X) (xs : List A) (at : ℕ) where
-  abbrev checks : ℕ → Checked (List X)
-  checks from = all_checked (numbered_from f from (drop from xs))
-
-  abbrev then : Checked X → Checked (List X)
-  then found = found >>= λ y. checks (at + 1) >>= λ ys. Ok (y ∷ ys)
-
-  checks-next : (x : A) → at < length xs → x ≡ get_or xs at x → checks at ≡ then (f at x)
-  checks-next x within is =
-      ap (λ (l : List A). all_checked (numbered_from f at l)) (drop_next xs at x within)
-      ∙ ap (λ (y : A). all_checked (f at y ∷ numbered_from f (suc at) (drop (at + 1) xs))) (sym is)
-      ∙ ap (λ (n : ℕ). all_checked (f at x ∷ numbered_from f n (drop (at + 1) xs))) (sym (add-one at))
-
-  pub checked_more : (front : List X) (x : A) (y : X) → at < length xs → x ≡ get_or xs at x → f at x ≡ Ok y →
-      behind (front ++ y ∷ []) (checks (at + 1)) ≡ behind front (checks at)
-  checked_more front x y within is found =
-      behind_more front (y ∷ []) (checks (at + 1)) ∙ ap (behind front) (sym (checks-next x within is ∙ ap then found))
-
-  pub checked_stop : (front : List X) (x : A) (stop : ResolveStop) → at < length xs → x ≡ get_or xs at x → f at x ≡ Err stop → behind front (checks at) ≡ Err stop
-  checked_stop front x stop within is fails = ap (behind front) (checks-next x within is ∙ ap then fails)
-
-  pub checked_end : (front : List X) → length xs ≤ at → behind front (checks at) ≡ Ok front
-  checked_end front past = ap (λ (l : List A). behind front (all_checked (numbered_from f at l))) (drop_of_length-le xs past) ∙ ap Ok (append-nil front)
-
-pub ruleset checked_steps = (behind_none, checked_more, checked_stop, checked_end)
-
--- ---- the places of those that pass
-
-module _ {A : Type 0} (passes : ℕ → Bool) (xs : List A) (at : ℕ) (front : List ℕ) where
-  abbrev places : ℕ → List ℕ
-  places from = filter passes (numbered_from its_place from (drop from xs))
-
-  places-next : (x : A) → at < length xs → x ≡ get_or xs at x → places at ≡ cond (passes at) (at ∷ places (at + 1)) (places (at + 1))
-  places-next x within is =
-      ap (λ (l : List A). filter passes (numbered_from its_place at l)) (drop_next xs at x within)
-      ∙ ap (λ (n : ℕ). cond (passes at) (at ∷ filter passes (numbered_from its_place n (drop (at + 1) xs))) (filter passes (numbered_from its_place n (drop (at + 1) xs)))) (sym (add-one at))
-
-  pub place_kept : (x : A) (place : ℕ) → at < length xs → x ≡ get_or xs at x → place ≡ at → passes place ≡ true → (front ++ place ∷ []) ++ places (at + 1) ≡ front ++ places at
-  place_kept x place within is same passed =
-      append_assoc front (place ∷ []) (places (at + 1))
-      ∙ ap (λ (n : ℕ). front ++ n ∷ places (at + 1)) same
-      ∙ ap (λ (l : List ℕ). front ++ l)
-      (sym (places-next x within is ∙ ap (λ (b : Bool). cond b (at ∷ places (at + 1)) (places (at + 1))) (ap passes (sym same) ∙ passed)))
-
-  pub place_left : (x : A) (place : ℕ) → at < length xs → x ≡ get_or xs at x → place ≡ at → passes place ≡ false → front ++ places (at + 1) ≡ front ++ places at
-  place_left x place within is same failed =
-      ap (λ (l : List ℕ). front ++ l)
-      (sym (places-next x within is ∙ ap (λ (b : Bool). cond b (at ∷ places (at + 1)) (places (at + 1))) (ap passes (sym same) ∙ failed)))
-
-  pub places_end : length xs ≤ at → front ++ places at ≡ front
-  places_end past = ap (λ (l : List A). front ++ filter passes (numbered_from its_place at l)) (drop_of_length-le xs past) ∙ append-nil front
-
-pub ruleset place_steps = (place_kept, place_left, places_end)
 
 -- ---- those that pass
 

@@ -20,5 +20,4 @@ pub use keeping::{deduplicate, limit, offset, subquery_alias};
 pub use leaves::{range, read, table_name};
 pub use limits::within_limits;
 pub use naming::{renamed, to_df};
-pub use projecting::plain_projection;
 pub use testing::{filter, sort};

@@ -17,7 +17,7 @@ use resolve_names::{ColumnList, ResolveStop};
 use std::alloc::Global;
 
 #[tactic(auto, unfolding(crate::specs::Making::plain_projection))]
-pub fn plain_projection(
+pub(crate) fn plain_projection(
     alloc: Global,
     case_sensitive: bool,
     base: u64,
