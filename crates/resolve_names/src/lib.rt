@@ -16,7 +16,7 @@ pub use identifier::identifier_parts;
 pub use laws::{
     folded_spellings_answer_alike, found_columns_are_the_only_ones, identifiers_have_one_reading,
 };
-pub use lookup::{attribute_place, is_named, named_place};
+pub use lookup::{attribute_place, is_named, named_place, parts_of, relation_of};
 pub use matching::names_match;
 pub use scope::{ColumnList, ColumnOf, Scope, ScopeColumn, Tagged};
 pub use setting::is_case_sensitive;

@@ -76,9 +76,9 @@ fn planned_place(
     place_of_id(alloc, identifier, column.id, columns)
 }
 
-/// The parts of an identifier, or BadIdentifier.
+/// The parts of an identifier; BadIdentifier tells a text that spells none.
 #[tactic(auto, unfolding(crate::specs::Scopes::parts_of))]
-fn parts_of(alloc: Global, identifier: &str) -> Result<List<Text>, ResolveStop>
+pub fn parts_of(alloc: Global, identifier: &str) -> Result<List<Text>, ResolveStop>
     ensures ok { IfOk result (λ parts. scopes.parts_of identifier.now ≡ Ok parts) }
     ensures refused { IfErr result (λ e. e ≢ no_memory → scopes.parts_of identifier.now ≡ Err e) }
 {
@@ -201,9 +201,10 @@ fn all_match(case_sensitive: bool, parts: &[Text], qualifier: &[Text]) -> bool
     ))
 }
 
-/// The one relation with a plan id.
+/// The one relation with a plan id. CannotResolvePlanId tells an id that none has, AmbiguousReference, with the identifier, one that several
+/// have.
 #[tactic(auto, unfolding(crate::specs::Scopes::relation_of))]
-fn relation_of<'a, I>(
+pub fn relation_of<'a, I>(
     alloc: Global,
     identifier: &str,
     plan: i64,

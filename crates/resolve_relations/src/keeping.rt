@@ -194,7 +194,7 @@ fn named_places(
 }
 
 /// The place of the one column of a plain name, which is no identifier.
-pub(crate) fn plain_place(
+pub fn plain_place(
     alloc: Global,
     case_sensitive: bool,
     columns: &[ScopeColumn],
@@ -215,7 +215,7 @@ pub(crate) fn plain_place(
 }
 
 /// A place as it stands in nodes; one from 2^32 on is answered as want of memory.
-pub(crate) fn short_place(place: usize) -> Result<u32, OutOfMemory>
+pub fn short_place(place: usize) -> Result<u32, OutOfMemory>
     ensures { IfOk result (λ p. p ≡ place) }
 {
     u32::try_from(place).map_err(|_| OutOfMemory)

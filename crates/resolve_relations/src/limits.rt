@@ -29,7 +29,7 @@ pub fn within_limits(alloc: Global, columns: &[ScopeColumn]) -> Result<(), Resol
 }
 
 /// That there are as many columns as a relation may have.
-pub(crate) fn column_limit(alloc: Global, count: usize) -> Result<(), ResolveStop>
+pub fn column_limit(alloc: Global, count: usize) -> Result<(), ResolveStop>
     ensures ok { OnOk result (rules.column_limit count ≡ Ok tt) }
     ensures refused { IfErr result (λ e. e ≢ no_memory → rules.column_limit count ≡ Err e) }
 {
@@ -48,7 +48,7 @@ fn long_named(columns: &[ScopeColumn]) -> Option<&ScopeColumn>
 }
 
 /// The error of this name whose detail is a number.
-pub(crate) fn number_stop(alloc: Global, name: ErrorName, number: usize) -> ResolveStop
+pub fn number_stop(alloc: Global, name: ErrorName, number: usize) -> ResolveStop
     ensures { result ≢ no_memory → result ≡ Analysis (refusal name (decimal number)) }
 {
     match number.to_string(alloc) {
@@ -58,7 +58,7 @@ pub(crate) fn number_stop(alloc: Global, name: ErrorName, number: usize) -> Reso
 }
 
 /// The error of this name whose detail is a number with its sign.
-pub(crate) fn signed_stop(alloc: Global, name: ErrorName, number: i64) -> ResolveStop
+pub fn signed_stop(alloc: Global, name: ErrorName, number: i64) -> ResolveStop
     ensures { result ≢ no_memory → result ≡ Analysis (refusal name (signed_decimal number)) }
 {
     match number.to_string(alloc) {

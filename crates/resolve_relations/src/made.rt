@@ -12,7 +12,7 @@ use resolve_names::ScopeColumn;
 use std::alloc::Global;
 
 /// The id behind a first one by so many; one from 2^64 on is answered as want of memory.
-pub(crate) fn id_at(base: u64, number: usize) -> Result<u64, OutOfMemory>
+pub fn id_at(base: u64, number: usize) -> Result<u64, OutOfMemory>
     ensures { IfOk result (λ id. id ≡ rules.ids_from base number) }
 {
     base.checked_add(number as u64).ok_or(OutOfMemory)
@@ -20,7 +20,7 @@ pub(crate) fn id_at(base: u64, number: usize) -> Result<u64, OutOfMemory>
 
 /// The columns that items make of the input's columns: ids that are fresh are those from `base` on, by the items' numbers.
 #[tactic(auto, using(crate::proofs::Numbered::number_steps))]
-pub(crate) fn made_columns(
+pub fn made_columns(
     alloc: Global,
     base: u64,
     columns: &[ScopeColumn],
@@ -85,7 +85,7 @@ fn own_column(alloc: Global, id: u64, item: &Item) -> Result<ScopeColumn, OutOfM
 }
 
 /// A column of its own, without a qualifier.
-pub(crate) fn fresh_column(
+pub fn fresh_column(
     alloc: Global,
     id: u64,
     name: Text,
@@ -105,7 +105,7 @@ pub(crate) fn fresh_column(
 
 /// The items' expressions.
 #[tactic(auto, using(crate::proofs::Numbered::map_steps))]
-pub(crate) fn exprs_of(alloc: Global, items: &[Item]) -> Result<List<TypedExpr>, OutOfMemory>
+pub fn exprs_of(alloc: Global, items: &[Item]) -> Result<List<TypedExpr>, OutOfMemory>
     ensures { IfOk result (λ exprs. exprs ≡ rules.exprs_of items.now) }
 {
     let mut exprs = List::new(alloc);

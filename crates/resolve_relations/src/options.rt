@@ -9,7 +9,7 @@ use resolve_names::{ErrorName, ResolveStop, analysis_stop};
 use std::alloc::Global;
 
 /// An option that has no meaning, by its number.
-pub(crate) fn bad_option(alloc: Global, number: i32) -> ResolveStop
+pub fn bad_option(alloc: Global, number: i32) -> ResolveStop
     ensures { result ≢ no_memory → result ≡ Analysis (rules.bad_option number) }
 {
     match option_text(alloc, number) {
