@@ -1,0 +1,3 @@
+-- Joins of two relations, with their columns.
+pub mod Joins
+pub mod Keys

@@ -1,0 +1,6 @@
+//! Joins of two resolved relations.
+#![tactic(auto)]
+
+mod keys;
+
+pub use keys::KeyPair;

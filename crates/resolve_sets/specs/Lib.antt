@@ -1,0 +1,3 @@
+-- Set operations of two relations, with their columns.
+pub mod Aligning
+pub mod Sets

@@ -1,0 +1,6 @@
+//! Set operations of two resolved relations.
+#![tactic(auto)]
+
+mod aligned;
+
+pub use aligned::{Aligned, Places};
