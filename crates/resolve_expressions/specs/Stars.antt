@@ -2,8 +2,11 @@
 use Rattle.std.specs.Prelude.{ℕ, suc, ◌-◌, Bool, true, List, [], ◌∷◌, ◌++◌, length, take, drop, bytes_eq, codes, if◌then◌else◌, Option, Some, None, Ok}
 use Rattle.plan_model.specs.declared.expression.TypedExpr.TheVariants as typed
 use Rattle.resolve_names.specs.declared.scope.ColumnOf.{ColumnOf}
-use Rattle.resolve_names.specs.Checks.{Checked, ◌>>=◌, refused}
-use Rattle.resolve_names.specs.Scopes.{parts_match, parts_of, unresolved}
+use Rattle.resolve_names.specs.declared.error.ErrorName.TheVariants.{BadIdentifier}
+use Rattle.resolve_names.specs.Checks.{Checked, ◌>>=◌, or_refused, refused}
+use Rattle.resolve_names.specs.Identifiers.{parts_in}
+use Rattle.resolve_names.specs.Refusals.{refusal}
+use Rattle.resolve_names.specs.Scopes.{parts_match, unresolved}
 use Rattle.resolve_expressions.specs.declared.item.Item.{Item}
 
 -- the column at a place, as it is
@@ -33,12 +36,13 @@ any_column column = true
 abbrev pub has_qualifier : {I : Type 0} → Bool → List (List ℕ) → ColumnOf I → Bool
 has_qualifier exact parts column = parts_match exact parts column.qualifier
 
-abbrev pub qualified : {I : Type 0} → Bool → List (ColumnOf I) → List ℕ → Checked (List Item)
-qualified exact columns identifier = do
-  parts ← parts_of identifier
+-- errors tell the identifier as it was given, with the `.*` that its name may have lost
+abbrev pub qualified : {I : Type 0} → Bool → List (ColumnOf I) → List ℕ → List ℕ → Checked (List Item)
+qualified exact columns identifier name = do
+  parts ← or_refused (refusal BadIdentifier identifier) (parts_in name)
   some_items identifier (items_where (has_qualifier exact parts) 0 columns)
 
 -- without a target all columns, of which there may be none; with one those with this qualifier, of which there is one at least
 unfoldable pub star_items : {I : Type 0} → Bool → List (ColumnOf I) → Option (List ℕ) → Checked (List Item)
 star_items exact columns None = Ok (items_where any_column 0 columns)
-star_items exact columns (Some target) = qualified exact columns (target_name target)
+star_items exact columns (Some target) = qualified exact columns target (target_name target)

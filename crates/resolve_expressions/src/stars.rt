@@ -1,7 +1,11 @@
 ghost use Rattle.std.specs.Prelude.{◌≡◌, ◌≢◌, ◌++◌, IfOk, OnOk, IfErr, Ok, Err, zip};
 ghost use Rattle.std.specs.List.{list_all};
 ghost use Rattle.resolve_names.specs.declared.error.ResolveStop.TheVariants.{OutOfMemory as no_memory};
+ghost use Rattle.resolve_names.specs.declared.error.ErrorName.TheVariants.{BadIdentifier};
+ghost use Rattle.resolve_names.specs.Checks.{or_refused};
+ghost use Rattle.resolve_names.specs.Identifiers.{parts_in};
 ghost use Rattle.resolve_names.specs.Matching.{name_matches};
+ghost use Rattle.resolve_names.specs.Refusals.{refusal};
 ghost use Rattle.resolve_names.specs.Scopes as scopes;
 ghost use Rattle.resolve_expressions.specs.Named as named;
 ghost use Rattle.resolve_expressions.specs.Stars as stars;
@@ -16,7 +20,7 @@ use resolve_names::{
 use std::alloc::Global;
 
 /// The columns that a star means, as they are: all, of which there may be none, or those with its target as their qualifier, of which there
-/// is one at least. Errors: BadIdentifier, UnresolvedColumn. A place from 2^32 on is answered as want of memory.
+/// is one at least. Errors: BadIdentifier, UnresolvedColumn, both with the target as it was given. A place from 2^32 on is answered as want of memory.
 #[tactic(auto, unfolding(crate::specs::Stars::star_items))]
 pub fn star_items(
     alloc: Global,
@@ -28,7 +32,9 @@ pub fn star_items(
 {
     match &star.unparsed_target {
         None => Ok(all_items(alloc, names.columns)?),
-        Some(target) => qualified_items(alloc, names, target_name(target.as_str())),
+        Some(target) => {
+            qualified_items(alloc, names, target.as_str(), target_name(target.as_str()))
+        }
     }
 }
 
@@ -53,17 +59,18 @@ fn all_items(alloc: Global, columns: &[ScopeColumn]) -> Result<List<Item>, OutOf
     Ok(items)
 }
 
-/// The columns with this qualifier.
+/// The columns with this name as their qualifier; errors tell the identifier as it was given.
 #[tactic(auto, using(crate::proofs::StarSteps::some_items_there))]
 fn qualified_items(
     alloc: Global,
     names: &Names<'_>,
     identifier: &str,
+    name: &str,
 ) -> Result<List<Item>, ResolveStop>
-    ensures ok { IfOk result (λ items. stars.qualified names.now.case_sensitive names.now.columns.now identifier.now ≡ Ok items) }
-    ensures refused { IfErr result (λ e. e ≢ no_memory → stars.qualified names.now.case_sensitive names.now.columns.now identifier.now ≡ Err e) }
+    ensures ok { IfOk result (λ items. stars.qualified names.now.case_sensitive names.now.columns.now identifier.now name.now ≡ Ok items) }
+    ensures refused { IfErr result (λ e. e ≢ no_memory → stars.qualified names.now.case_sensitive names.now.columns.now identifier.now name.now ≡ Err e) }
 {
-    let parts = parts_of(alloc, identifier)?;
+    let parts = target_parts(alloc, identifier, name)?;
     let items = items_of(alloc, names.case_sensitive, parts.as_slice(), names.columns)?;
     if items.is_empty() {
         return Err(analysis_stop(alloc, ErrorName::UnresolvedColumn, identifier));
@@ -71,13 +78,12 @@ fn qualified_items(
     Ok(items)
 }
 
-/// The parts of an identifier, or BadIdentifier.
-#[tactic(auto, unfolding(resolve_names::specs::Scopes::parts_of))]
-fn parts_of(alloc: Global, identifier: &str) -> Result<List<Text>, ResolveStop>
-    ensures ok { IfOk result (λ parts. scopes.parts_of identifier.now ≡ Ok parts) }
-    ensures refused { IfErr result (λ e. e ≢ no_memory → scopes.parts_of identifier.now ≡ Err e) }
+/// The parts of a target's name, or BadIdentifier.
+fn target_parts(alloc: Global, identifier: &str, name: &str) -> Result<List<Text>, ResolveStop>
+    ensures ok { IfOk result (λ parts. or_refused (refusal BadIdentifier identifier.now) (parts_in name.now) ≡ Ok parts) }
+    ensures refused { IfErr result (λ e. e ≢ no_memory → or_refused (refusal BadIdentifier identifier.now) (parts_in name.now) ≡ Err e) }
 {
-    match identifier_parts(alloc, identifier)? {
+    match identifier_parts(alloc, name)? {
         Some(parts) => Ok(parts),
         None => Err(analysis_stop(alloc, ErrorName::BadIdentifier, identifier)),
     }
