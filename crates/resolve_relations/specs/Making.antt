@@ -1,5 +1,5 @@
 -- Rules of relations without an input, and of those that make other columns of one.
-use Rattle.std.specs.Prelude.{ℕ, ℤ, pos, ◌&&◌, ◌||◌, ◌==◌, not, nat_eq, Bool, true, false, if◌then◌else◌, List, [], ◌∷◌, ◌++◌, map, filter, find, length, slice_get, Option, Some, None, Ok, codes, unwrap_or, option_map}
+use Rattle.std.specs.Prelude.{ℕ, ℤ, pos, ◌||◌, ◌==◌, not, nat_eq, Bool, true, false, if◌then◌else◌, List, [], ◌∷◌, ◌++◌, map, filter, find, length, slice_get, Option, Some, None, Ok, codes, unwrap_or, option_map}
 use Rattle.std.specs.Fmt.{signed_decimal, decimal}
 use Rattle.std.specs.List.{list_any}
 use Rattle.std.specs.Ordering.{int_eq}
@@ -32,6 +32,8 @@ use Rattle.resolve_expressions.specs.Grouping.{all_checked, has_aggregate}
 use Rattle.resolve_expressions.specs.Outputs.{added_items, grouped, key_items, projected}
 use Rattle.resolve_expressions.specs.Stars.{column_item, items_where}
 use Rattle.resolve_expressions.specs.Typings.{meaningless}
+use Rattle.resolve_relations.specs.declared.dropping.Meant.{Meant}
+use Rattle.resolve_relations.specs.declared.dropping.Meant.TheVariants.{Ids, Parts}
 use Rattle.resolve_relations.specs.declared.found.FoundOf.{FoundOf}
 use Rattle.resolve_relations.specs.Columns.{column_limit, exprs_of, fresh_column, made_columns, numbered, projection, remade}
 
@@ -124,6 +126,24 @@ abbrev pub attribute_in : Expr-F Expr → Checked UnresolvedAttribute
 attribute_in (Expr-F.UnresolvedAttribute attribute) = Ok attribute
 attribute_in form = refused (meaningless (field_number form))
 
+-- what an attribute means: the columns that its parts name, or with a plan id those that are columns of that relation which they name there
+abbrev pub ids_named : {I : Type 0} → Bool → List (List ℕ) → List (ColumnOf I) → List I
+ids_named exact parts columns = map (λ column. column.id) (filter (is_named exact parts) columns)
+
+abbrev pub meant_in : {I : Type 0} → Bool → List (Tagged I) → List ℕ → List (List ℕ) → ℤ → Checked (Meant I)
+meant_in exact relations identifier parts plan =
+    relation_of identifier plan relations >>= λ relation. Ok (Ids (ids_named exact parts relation.columns))
+
+abbrev pub meant_by : {I : Type 0} → Bool → List (Tagged I) → List ℕ → List (List ℕ) → Option ℤ → Checked (Meant I)
+meant_by exact relations identifier parts None = Ok (Parts parts)
+meant_by exact relations identifier parts (Some plan) = meant_in exact relations identifier parts plan
+
+abbrev pub meant : {I : Type 0} → Bool → List (Tagged I) → Expr → Checked (Meant I)
+meant exact relations expr = do
+  attribute ← attribute_in (out-Expr expr)
+  parts ← parts_of attribute.unparsed_identifier
+  meant_by exact relations attribute.unparsed_identifier parts attribute.plan_id
+
 -- the columns that pass a test, of the same rows
 abbrev pub kept : {I : Type 0} → FoundOf I → (ColumnOf I → Bool) → FoundOf I
 kept input keeps = remade input (node.Project input.node (exprs_of (items_where keeps 0 input.columns))) (filter keeps input.columns)
@@ -164,23 +184,17 @@ abbrev pub same_name : Bool → Item → Item → Bool
 same_name exact item other = name_matches exact item.name other.name
 
 module _ {I : Type 0} (same : I → I → Bool) (exact : Bool) where
-  -- the columns that an attribute means, of which there may be several or none; with a plan id those that it means in that relation
-  abbrev pub meant_by : List (Tagged I) → List ℕ → List (List ℕ) → Option ℤ → Checked (ColumnOf I → Bool)
-  meant_by relations identifier parts None = Ok (is_named exact parts)
-  meant_by relations identifier parts (Some plan) =
-      relation_of identifier plan relations >>= λ relation. Ok (λ column. list_any (λ other. is_named exact parts other && same other.id column.id) relation.columns)
+  abbrev pub is_meant : Meant I → ColumnOf I → Bool
+  is_meant (Parts parts) column = is_named exact parts column
+  is_meant (Ids ids) column = list_any (λ id. same id column.id) ids
 
-  abbrev pub meant : List (Tagged I) → Expr → Checked (ColumnOf I → Bool)
-  meant relations expr = do
-    attribute ← attribute_in (out-Expr expr)
-    parts ← parts_of attribute.unparsed_identifier
-    meant_by relations attribute.unparsed_identifier parts attribute.plan_id
+  -- no expression and no name means the column
+  abbrev pub is_kept : List (Meant I) → List (List ℕ) → ColumnOf I → Bool
+  is_kept meant names column = not (list_any (λ one. is_meant one column) meant || list_any (λ name. name_matches exact name column.name) names)
 
   -- `drop`: the columns that no expression and no name means
   unfoldable pub drop_rule : FoundOf I → List Expr → List (List ℕ) → Checked (FoundOf I)
-  drop_rule input exprs names = do
-    tests ← all_checked (map (meant input.relations) exprs)
-    Ok (kept input (λ column. not (list_any (λ test. test column) tests || list_any (λ name. name_matches exact name column.name) names)))
+  drop_rule input exprs names = all_checked (map (meant exact input.relations) exprs) >>= λ meant. Ok (kept input (is_kept meant names))
 
   -- ---- `with_columns`
 

@@ -3,6 +3,7 @@
 
 mod adding;
 mod aggregating;
+mod dropping;
 mod found;
 mod keeping;
 mod leaves;
@@ -15,6 +16,7 @@ mod testing;
 
 pub use adding::with_columns;
 pub use aggregating::{aggregate, project};
+pub use dropping::{Meant, drop_columns};
 pub use found::{Found, FoundOf};
 pub use keeping::{deduplicate, limit, offset, plain_place, short_place, subquery_alias};
 pub use leaves::{range, read, table_name};
