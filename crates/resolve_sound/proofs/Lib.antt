@@ -1,0 +1,8 @@
+-- Facts for the laws of sound relations.
+pub mod Chains
+pub mod GroupedItems
+pub mod KeptRelations
+pub mod MadeRelations
+pub mod Places
+pub mod PlainItems
+pub mod Wider

@@ -1,0 +1,44 @@
+-- What the rules of relations keep: of sound relations they make sound ones.
+use Rattle.std.specs.Prelude.{ℕ, ℤ, nat_eq, Bool, List, Ok}
+use Rattle.table_store.specs.declared.tables.NamedTable.{NamedTable}
+use Rattle.expression_messages.specs.declared.expression.Alias.{Alias}
+use Rattle.expression_messages.specs.declared.expression.Expr.{Expr}
+use Rattle.expression_messages.specs.declared.expression.SortOrder.{SortOrder}
+use Rattle.plain_relations.specs.declared.rename_entry.RenameEntry.{RenameEntry}
+use Rattle.resolve_relations.specs.declared.found.FoundOf.{FoundOf}
+use Rattle.resolve_relations.specs.Keeping.{alias_rule, deduplicate_rule, filter_rule, limit_rule, offset_rule, sort_rule}
+use Rattle.resolve_relations.specs.Making.{aggregate_rule, drop_rule, plain_projection, project_rule, range_rule, read_rule, renamed_rule, to_df_rule, with_columns_rule}
+use Rattle.resolve_sound.specs.Sound.{HaveFittingRows, IsSoundAnswer, KeepsSound}
+
+-- ---- whatever tells columns apart
+
+pub record KeptRelationsAreSound (I : Type 0) : Type 0 where
+  pub limits : (number : ℤ) → KeepsSound (λ (input : FoundOf I). limit_rule input number)
+  pub offsets : (number : ℤ) → KeepsSound (λ (input : FoundOf I). offset_rule input number)
+  pub aliases : (alias : List ℕ) → KeepsSound (λ (input : FoundOf I). Ok (alias_rule input alias))
+  pub distinct_rows : (exact all : Bool) (names : List (List ℕ)) → KeepsSound (λ (input : FoundOf I). deduplicate_rule exact input all names)
+
+pub record LeavesAreSound (I : Type 0) : Type 0 where
+  pub ranges : (fresh : ℕ → I) (start end step : ℤ) → IsSoundAnswer (range_rule fresh start end step)
+  pub tables : (fresh : ℕ → I) (tables : List NamedTable) (identifier : List ℕ) → HaveFittingRows tables → IsSoundAnswer (read_rule fresh tables identifier)
+
+pub record RenamedRelationsAreSound (I : Type 0) : Type 0 where
+  pub all_renamed : (fresh : ℕ → I) (names : List (List ℕ)) → KeepsSound (λ input. to_df_rule fresh input names)
+  pub some_renamed : (exact : Bool) (fresh : ℕ → I) (entries : List RenameEntry) → KeepsSound (λ input. Ok (renamed_rule exact fresh input entries))
+
+-- ---- over expressions, whose columns are told apart by numbers
+
+pub record TestedRelationsAreSound : Type 0 where
+  pub filters : (exact : Bool) (condition : Expr) → KeepsSound (λ input. filter_rule nat_eq exact input condition)
+  pub sorts : (exact : Bool) (orders : List (SortOrder Expr)) → KeepsSound (λ input. sort_rule nat_eq exact input orders)
+
+pub record ProjectionsAreSound : Type 0 where
+  pub values : (exact : Bool) (fresh : ℕ → ℕ) (exprs : List Expr) → KeepsSound (λ input. plain_projection nat_eq exact fresh input exprs)
+  pub more_columns : (exact : Bool) (fresh : ℕ → ℕ) (aliases : List (Alias Expr)) → KeepsSound (λ input. with_columns_rule nat_eq exact fresh input aliases)
+  pub fewer_columns : (exact : Bool) (exprs : List Expr) (names : List (List ℕ)) → KeepsSound (λ input. drop_rule nat_eq exact input exprs names)
+
+pub record AggregatesAreSound : Type 0 where
+  pub groups : (exact : Bool) (fresh : ℕ → ℕ) (group_type : ℤ) (groupings exprs : List Expr) →
+      KeepsSound (λ input. aggregate_rule nat_eq exact fresh input group_type groupings exprs)
+  -- a projection, with an aggregate call in it or without one
+  pub projections : (exact : Bool) (fresh : ℕ → ℕ) (exprs : List Expr) → KeepsSound (λ input. project_rule nat_eq exact fresh input exprs)

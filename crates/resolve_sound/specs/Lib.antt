@@ -1,0 +1,3 @@
+-- What the rules of relations keep.
+pub mod Laws
+pub mod Sound
