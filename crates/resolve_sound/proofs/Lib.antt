@@ -1,8 +1,10 @@
 -- Facts for the laws of sound relations.
 pub mod Chains
 pub mod GroupedItems
+pub mod JoinedRelations
 pub mod KeptRelations
 pub mod MadeRelations
 pub mod Places
 pub mod PlainItems
+pub mod SetRelations
 pub mod Wider

@@ -24,7 +24,7 @@ use Rattle.resolve_expressions.specs.Stars.{column_item, items_where}
 use Rattle.resolve_relations.specs.declared.found.FoundOf.{FoundOf}
 use Rattle.resolve_relations.specs.Columns.{column_limit, expr_of, exprs_of, numbered, numbered_from, projection}
 use Rattle.resolve_relations.specs.Making.{aggregate_rule, aggregated, aggregation, drop_rule, grouping_only, is_kept, is_new, item_name, kept, key_value, later_twin, meant, no_twin, plain_projection, project_rule, replaced, same_name, with_added, with_columns_rule}
-use Rattle.resolve_sound.specs.Laws.{AggregatesAreSound, ProjectionsAreSound}
+use Rattle.resolve_sound.specs.Laws.{AggregatesAreSound, FewerColumnsAreSound, ProjectionsAreSound}
 use Rattle.resolve_sound.specs.Sound.{IsSoundAnswer, IsSoundFound, kinds}
 use Rattle.resolve_sound.proofs.Chains.{either_way, found_holds, then_holds}
 use Rattle.resolve_sound.proofs.GroupedItems.{AreGroupedOver, all_grouped, key_values_over}
@@ -133,8 +133,10 @@ pub projections_sound : ProjectionsAreSound
 projections_sound = record {
   values = λ exact fresh exprs input sound. plain_sound exact fresh input sound exprs;
   more_columns = λ exact fresh aliases input sound. more_sound exact fresh input sound aliases;
-  fewer_columns = λ exact exprs names input sound. fewer input sound nat_eq exact exprs names;
 }
+
+pub fewer_sound : (I : Type 0) → FewerColumnsAreSound I
+fewer_sound I = record { fewer_columns = λ same exact exprs names input sound. fewer input sound same exact exprs names }
 
 pub aggregates_sound : AggregatesAreSound
 aggregates_sound = record {

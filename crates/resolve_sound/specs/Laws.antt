@@ -26,6 +26,10 @@ pub record RenamedRelationsAreSound (I : Type 0) : Type 0 where
   pub all_renamed : (fresh : ℕ → I) (names : List (List ℕ)) → KeepsSound (λ input. to_df_rule fresh input names)
   pub some_renamed : (exact : Bool) (fresh : ℕ → I) (entries : List RenameEntry) → KeepsSound (λ input. Ok (renamed_rule exact fresh input entries))
 
+pub record FewerColumnsAreSound (I : Type 0) : Type 0 where
+  pub fewer_columns : (same : I → I → Bool) (exact : Bool) (exprs : List Expr) (names : List (List ℕ)) →
+      KeepsSound (λ input. drop_rule same exact input exprs names)
+
 -- ---- over expressions, whose columns are told apart by numbers
 
 pub record TestedRelationsAreSound : Type 0 where
@@ -35,7 +39,6 @@ pub record TestedRelationsAreSound : Type 0 where
 pub record ProjectionsAreSound : Type 0 where
   pub values : (exact : Bool) (fresh : ℕ → ℕ) (exprs : List Expr) → KeepsSound (λ input. plain_projection nat_eq exact fresh input exprs)
   pub more_columns : (exact : Bool) (fresh : ℕ → ℕ) (aliases : List (Alias Expr)) → KeepsSound (λ input. with_columns_rule nat_eq exact fresh input aliases)
-  pub fewer_columns : (exact : Bool) (exprs : List Expr) (names : List (List ℕ)) → KeepsSound (λ input. drop_rule nat_eq exact input exprs names)
 
 pub record AggregatesAreSound : Type 0 where
   pub groups : (exact : Bool) (fresh : ℕ → ℕ) (group_type : ℤ) (groupings exprs : List Expr) →

@@ -1,3 +1,4 @@
 -- What the rules of relations keep.
 pub mod Laws
+pub mod PairLaws
 pub mod Sound

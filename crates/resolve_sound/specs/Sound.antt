@@ -25,6 +25,10 @@ IsSoundAnswer answer = IfOk answer IsSoundFound
 abbrev pub KeepsSound : {I : Type 0} → (FoundOf I → Checked (FoundOf I)) → Type 0
 KeepsSound {I = I} rule = (input : FoundOf I) → IsSoundFound input → IsSoundAnswer (rule input)
 
+-- a rule that makes a sound relation of two sound ones, where it makes one
+abbrev pub KeepsBothSound : {I : Type 0} → (FoundOf I → FoundOf I → Checked (FoundOf I)) → Type 0
+KeepsBothSound {I = I} rule = (left right : FoundOf I) → IsSoundFound left → IsSoundFound right → IsSoundAnswer (rule left right)
+
 -- tables whose rows fit their schemas
 abbrev pub HaveFittingRows : List NamedTable → Type 0
 HaveFittingRows tables = All (λ table. All (Fits table.schema) table.rows) tables

@@ -1,9 +1,8 @@
-ghost use Rattle.std.specs.Prelude.{ℕ};
-ghost use Rattle.resolve_sound.specs.Laws.{AggregatesAreSound, KeptRelationsAreSound, LeavesAreSound, ProjectionsAreSound, RenamedRelationsAreSound, TestedRelationsAreSound};
+ghost use Rattle.resolve_sound.specs.Laws.{AggregatesAreSound, FewerColumnsAreSound, KeptRelationsAreSound, LeavesAreSound, ProjectionsAreSound, RenamedRelationsAreSound, TestedRelationsAreSound};
 
 /// Law: `limit`, `offset`, an alias and `deduplicate` keep a relation sound.
-pub fn kept_relations_are_sound()
-    ensures { KeptRelationsAreSound ℕ }
+pub fn kept_relations_are_sound<I>()
+    ensures { KeptRelationsAreSound I }
 {}
 
 /// Law: `filter` and `sort` keep a relation sound.
@@ -12,16 +11,21 @@ pub fn tested_relations_are_sound()
 {}
 
 /// Law: a range is sound, and the table that is read where the tables' rows fit their schemas.
-pub fn leaves_are_sound()
-    ensures { LeavesAreSound ℕ }
+pub fn leaves_are_sound<I>()
+    ensures { LeavesAreSound I }
 {}
 
 /// Law: a relation stays sound under other names.
-pub fn renamed_relations_are_sound()
-    ensures { RenamedRelationsAreSound ℕ }
+pub fn renamed_relations_are_sound<I>()
+    ensures { RenamedRelationsAreSound I }
 {}
 
-/// Law: a projection of a sound relation is sound, also with more columns, and without some.
+/// Law: a relation stays sound without some of its columns.
+pub fn fewer_columns_are_sound<I>()
+    ensures { FewerColumnsAreSound I }
+{}
+
+/// Law: a projection of a sound relation is sound, and a sound relation with more columns.
 pub fn projections_are_sound()
     ensures { ProjectionsAreSound }
 {}

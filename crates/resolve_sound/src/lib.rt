@@ -2,8 +2,10 @@
 #![tactic(auto)]
 
 mod laws;
+mod pair_laws;
 
 pub use laws::{
-    aggregates_are_sound, kept_relations_are_sound, leaves_are_sound, projections_are_sound,
+    aggregates_are_sound, fewer_columns_are_sound, kept_relations_are_sound, leaves_are_sound, projections_are_sound,
     renamed_relations_are_sound, tested_relations_are_sound,
 };
+pub use pair_laws::{joins_are_sound, set_operations_are_sound};
