@@ -34,8 +34,8 @@ use Rattle.resolve_relations.specs.Keeping.{plain_place}
 use Rattle.resolve_joins.specs.declared.keys.KeyPair.{KeyPair}
 use Rattle.resolve_joins.specs.Joins.{clash, has_left_nulls, has_right_nulls, is_there, join_rule, joined, joined_columns, keyed, kind_numbered, kind_without, on_rule, perhaps_null, side_columns, using_rule}
 use Rattle.resolve_joins.specs.Keys.{all_equal, are_equal, both, is_rest, key_item, key_pair, left_value, merged, paired, right_value, using_items}
-use Rattle.resolve_sound.specs.PairLaws.{JoinsAreSound}
-use Rattle.resolve_sound.specs.Sound.{IsSoundAnswer, IsSoundFound, kinds}
+use Rattle.resolve_sound.specs.PairLaws.{JoinsAre}
+use Rattle.resolve_sound.specs.Sound.{IsSoundFound, kinds}
 use Rattle.resolve_sound.proofs.Chains.{all_hold, either_way, then_holds, there}
 use Rattle.resolve_sound.proofs.MadeRelations.{projection_sound}
 use Rattle.resolve_sound.proofs.Places.{ItemOver, kinds_of_map, passing_over}
@@ -202,7 +202,7 @@ module _ (left right : List DataType) (width : ℕ) (wide : width ≡ length lef
 -- ---- the rule
 
 module _ (exact : Bool) (fresh : ℕ → ℕ) (left right : FoundOf ℕ) (on_left : IsSoundFound left) (on_right : IsSoundFound right) where
-  on_condition : (kind : JoinKind) (condition : Option Expr) → IsSoundAnswer (on_rule nat_eq exact kind left right condition)
+  on_condition : (kind : JoinKind) (condition : Option Expr) → IfOk (on_rule nat_eq exact kind left right condition) IsSoundFound
   unfolding on_rule
   on_condition kind None = joined_sound left right on_left on_right (kind_without kind) None tt
   on_condition kind (Some condition) =
@@ -235,11 +235,11 @@ module _ (exact : Bool) (fresh : ℕ → ℕ) (left right : FoundOf ℕ) (on_lef
         (using_over (kinds left.columns) (kinds right.columns) width Wide its_items kind keys
         (subst (λ (ks : List DataType). All (ItemOver ks) its_items) same_kinds (passing_over any_column pairs.columns)) are_keys)
 
-    keyed_sound : IsSoundAnswer (keyed nat_eq exact fresh kind width pairs keys)
+    keyed_sound : IfOk (keyed nat_eq exact fresh kind width pairs keys) IsSoundFound
     keyed_sound = then_holds IsSoundFound (column_limit (length (using_items kind width keys its_items))) _ (λ u is.
         projection_sound pairs pairs_sound fresh (using_items kind width keys its_items) keyed_over)
 
-  by_keys : (kind : JoinKind) (names : List (List ℕ)) → IsSoundAnswer (using_rule nat_eq exact fresh kind left right names)
+  by_keys : (kind : JoinKind) (names : List (List ℕ)) → IfOk (using_rule nat_eq exact fresh kind left right names) IsSoundFound
   unfolding using_rule
   by_keys kind names = then_holds IsSoundFound (all_checked (map (key_pair exact left.columns right.columns) names)) _ (λ keys are.
       keyed_sound kind keys (IfOk-at_ok (All Its) are (all_hold Its (key_pair exact left.columns right.columns) (key_found exact left.columns right.columns) names)))
@@ -247,12 +247,12 @@ module _ (exact : Bool) (fresh : ℕ → ℕ) (left right : FoundOf ℕ) (on_lef
       Its : KeyPair → Type 0
       Its = IsKey (kinds left.columns) (kinds right.columns)
 
-  pub join_sound : (number : ℤ) (condition : Option Expr) (names : List (List ℕ)) → IsSoundAnswer (join_rule nat_eq exact fresh left right number condition names)
+  pub join_sound : (number : ℤ) (condition : Option Expr) (names : List (List ℕ)) → IfOk (join_rule nat_eq exact fresh left right number condition names) IsSoundFound
   unfolding join_rule
   join_sound number condition names =
       then_holds IsSoundFound (or_refused _ (kind_numbered number)) _ (λ kind is.
       then_holds IsSoundFound (unless (clash kind (is_there condition) (not (length names == 0))) _) _ (λ u options.
       either_way IsSoundFound (length names == 0) _ _ (on_condition kind condition) (by_keys kind names)))
 
-pub joins_sound : JoinsAreSound
+pub joins_sound : JoinsAre IsSoundFound
 joins_sound = record { joins = λ exact fresh number condition names left right on_left on_right. join_sound exact fresh left right on_left on_right number condition names }

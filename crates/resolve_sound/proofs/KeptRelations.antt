@@ -29,8 +29,8 @@ use Rattle.resolve_relations.specs.declared.found.FoundOf.{FoundOf}
 use Rattle.resolve_relations.specs.Columns.{numbered_from, over, remade}
 use Rattle.resolve_relations.specs.Keeping.{alias_rule, deduplicate_rule, filter_rule, key_places, limit_rule, offset_rule, qualified, row_number, sort_rule}
 use Rattle.resolve_relations.specs.Making.{new_column, new_name, range_rule, read_rule, rename_column, renamed_rule, renamed_to, table_column, table_name, to_df_rule}
-use Rattle.resolve_sound.specs.Laws.{KeptRelationsAreSound, LeavesAreSound, RenamedRelationsAreSound, TestedRelationsAreSound}
-use Rattle.resolve_sound.specs.Sound.{HaveFittingRows, IsSoundAnswer, IsSoundFound, KeepsSound, kinds}
+use Rattle.resolve_sound.specs.Laws.{KeptRelationsAre, LeavesAre, RenamedRelationsAre, TestedRelationsAre}
+use Rattle.resolve_sound.specs.Sound.{HaveFittingRows, IsSoundFound, kinds}
 use Rattle.resolve_sound.proofs.Chains.{all_hold, either_way, found_holds, then_holds, there, unless_false}
 use Rattle.resolve_sound.proofs.Places.{kinds_numbered, kinds_of_map, places_within, plain_place_within}
 
@@ -46,11 +46,11 @@ module _ {I : Type 0} (input : FoundOf I) (sound : IsSoundFound input) where
   sliced : (skip : ℕ) (most : Option ℕ) → IsSoundFound (over input (V.Slice input.node skip most))
   sliced skip most = sound_over (V.Slice input.node skip most) (made-Slice IsSound input.node skip most tt sound.node) (types-Slice input.node skip most)
 
-  limited : (number : ℤ) → IsSoundAnswer (limit_rule input number)
+  limited : (number : ℤ) → IfOk (limit_rule input number) IsSoundFound
   unfolding limit_rule
   limited number = then_holds IsSoundFound (row_number number) _ (λ rows is. sliced 0 (Some rows))
 
-  skipped : (number : ℤ) → IsSoundAnswer (offset_rule input number)
+  skipped : (number : ℤ) → IfOk (offset_rule input number) IsSoundFound
   unfolding offset_rule
   skipped number = then_holds IsSoundFound (row_number number) _ (λ rows is. sliced rows None)
 
@@ -70,7 +70,7 @@ module _ {I : Type 0} (input : FoundOf I) (sound : IsSoundFound input) where
   as_many : length input.columns ≡ length (types input.node)
   as_many = sym (ap (λ (ks : List DataType). length ks) sound.columns ∙ length-map input.columns (λ column. column.kind))
 
-  deduplicated : (exact all : Bool) (names : List (List ℕ)) → IsSoundAnswer (deduplicate_rule exact input all names)
+  deduplicated : (exact all : Bool) (names : List (List ℕ)) → IfOk (deduplicate_rule exact input all names) IsSoundFound
   unfolding deduplicate_rule
   deduplicated exact all names = then_holds IsSoundFound (key_places exact input.columns all names) _ (λ places is.
       sound_over (V.DistinctOn input.node places)
@@ -80,7 +80,7 @@ module _ {I : Type 0} (input : FoundOf I) (sound : IsSoundFound input) where
 
   -- ---- other names
 
-  all_new : (fresh : ℕ → I) (names : List (List ℕ)) → IsSoundAnswer (to_df_rule fresh input names)
+  all_new : (fresh : ℕ → I) (names : List (List ℕ)) → IfOk (to_df_rule fresh input names) IsSoundFound
   unfolding to_df_rule
   all_new fresh names = then_holds IsSoundFound (unless (not (nat_eq (length input.columns) (length names))) _) _ (λ u is.
       sound_under (numbered_from (new_column fresh names) 0 input.columns)
@@ -96,7 +96,7 @@ module _ {I : Type 0} (input : FoundOf I) (sound : IsSoundFound input) where
       sound_under (numbered_from (rename_column exact fresh entries) 0 input.columns)
       (kinds_numbered (rename_column exact fresh entries) (λ column. column.kind) (λ n column. renamed_kind (fresh n) column (new_name exact entries column.name)) 0 input.columns)
 
-pub kept_are_sound : (I : Type 0) → KeptRelationsAreSound I
+pub kept_are_sound : (I : Type 0) → KeptRelationsAre I IsSoundFound
 kept_are_sound I = record {
   limits = λ number input sound. limited input sound number;
   offsets = λ number input sound. skipped input sound number;
@@ -104,7 +104,7 @@ kept_are_sound I = record {
   distinct_rows = λ exact all names input sound. deduplicated input sound exact all names;
 }
 
-pub renamed_are_sound : (I : Type 0) → RenamedRelationsAreSound I
+pub renamed_are_sound : (I : Type 0) → RenamedRelationsAre I IsSoundFound
 renamed_are_sound I = record {
   all_renamed = λ fresh names input sound. all_new input sound fresh names;
   some_renamed = λ exact fresh entries input sound. some_new input sound exact fresh entries;
@@ -115,14 +115,14 @@ renamed_are_sound I = record {
 moves : (step : ℤ) → int_eq step (pos 0) ≡ false → step ≢ pos 0
 moves step fails is = let h : int_eq step (pos 0) ≡ true = (Decides-int_eq step (pos 0)).1 is in cc
 
-ranged : {I : Type 0} (fresh : ℕ → I) (start end step : ℤ) → IsSoundAnswer (range_rule fresh start end step)
+ranged : {I : Type 0} (fresh : ℕ → I) (start end step : ℤ) → IfOk (range_rule fresh start end step) IsSoundFound
 unfolding range_rule
 ranged fresh start end step = then_holds IsSoundFound (unless (int_eq step (pos 0)) _) _ (λ u is. record {
   node = made-Range IsSound start end step (IfOk-at_ok (λ _. step ≢ pos 0) is (unless_false (step ≢ pos 0) (int_eq step (pos 0)) _ (moves step)));
   columns = types-Range start end step;
 })
 
-table_sound : {I : Type 0} (fresh : ℕ → I) (tables : List NamedTable) (identifier : List ℕ) → HaveFittingRows tables → IsSoundAnswer (read_rule fresh tables identifier)
+table_sound : {I : Type 0} (fresh : ℕ → I) (tables : List NamedTable) (identifier : List ℕ) → HaveFittingRows tables → IfOk (read_rule fresh tables identifier) IsSoundFound
 unfolding read_rule
 table_sound fresh tables identifier fit =
     then_holds IsSoundFound (table_name identifier) _ (λ name is.
@@ -136,13 +136,13 @@ table_sound fresh tables identifier fit =
     HasFittingRows : NamedTable → Type 0
     HasFittingRows table = All (Fits table.schema) table.rows
 
-pub leaves_are_sound : (I : Type 0) → LeavesAreSound I
+pub leaves_are_sound : (I : Type 0) → LeavesAre I HaveFittingRows IsSoundFound
 leaves_are_sound I = record { ranges = ranged; tables = table_sound }
 
 -- ---- conditions and keys of a sort
 
 module _ (exact : Bool) (input : FoundOf ℕ) (sound : IsSoundFound input) where
-  filtered : (condition : Expr) → IsSoundAnswer (filter_rule nat_eq exact input condition)
+  filtered : (condition : Expr) → IfOk (filter_rule nat_eq exact input condition) IsSoundFound
   unfolding filter_rule
   filtered condition = then_holds IsSoundFound (condition_of nat_eq exact input.columns input.relations (codes "filter") condition) _ (λ test is.
       sound_over input sound (V.Filter input.node test)
@@ -159,7 +159,7 @@ module _ (exact : Bool) (input : FoundOf ℕ) (sound : IsSoundFound input) where
   key_over order = then_holds (KeyOver (kinds input.columns)) (value_of nat_eq exact input.columns input.relations order.child) _ (λ expr is.
       values_are_well_formed exact input.columns input.relations order.child expr is)
 
-  sorted : (orders : List (SortOrder Expr)) → IsSoundAnswer (sort_rule nat_eq exact input orders)
+  sorted : (orders : List (SortOrder Expr)) → IfOk (sort_rule nat_eq exact input orders) IsSoundFound
   unfolding sort_rule sort_keys_of
   sorted orders = then_holds IsSoundFound (all_checked (map (sort_key_of nat_eq exact input.columns input.relations) orders)) _ (λ keys are.
       sound_over input sound (V.Sort input.node keys)
@@ -168,7 +168,7 @@ module _ (exact : Bool) (input : FoundOf ℕ) (sound : IsSoundFound input) where
       (IfOk-at_ok (All (KeyOver (kinds input.columns))) are (all_hold (KeyOver (kinds input.columns)) _ key_over orders))) sound.node)
       (types-Sort input.node keys))
 
-pub tested_are_sound : TestedRelationsAreSound
+pub tested_are_sound : TestedRelationsAre IsSoundFound
 tested_are_sound = record {
   filters = λ exact condition input sound. filtered exact input sound condition;
   sorts = λ exact orders input sound. sorted exact input sound orders;

@@ -24,8 +24,8 @@ use Rattle.resolve_expressions.specs.Stars.{column_item, items_where}
 use Rattle.resolve_relations.specs.declared.found.FoundOf.{FoundOf}
 use Rattle.resolve_relations.specs.Columns.{column_limit, expr_of, exprs_of, numbered, numbered_from, projection}
 use Rattle.resolve_relations.specs.Making.{aggregate_rule, aggregated, aggregation, drop_rule, grouping_only, is_kept, is_new, item_name, kept, key_value, later_twin, meant, no_twin, plain_projection, project_rule, replaced, same_name, with_added, with_columns_rule}
-use Rattle.resolve_sound.specs.Laws.{AggregatesAreSound, FewerColumnsAreSound, ProjectionsAreSound}
-use Rattle.resolve_sound.specs.Sound.{IsSoundAnswer, IsSoundFound, kinds}
+use Rattle.resolve_sound.specs.Laws.{AggregatesAre, FewerColumnsAre, ProjectionsAre}
+use Rattle.resolve_sound.specs.Sound.{IsSoundFound, kinds}
 use Rattle.resolve_sound.proofs.Chains.{either_way, found_holds, then_holds}
 use Rattle.resolve_sound.proofs.GroupedItems.{AreGroupedOver, all_grouped, key_values_over}
 use Rattle.resolve_sound.proofs.PlainItems.{all_added_over, keys_over, projected_over}
@@ -54,7 +54,7 @@ module _ {I : Type 0} (input : FoundOf I) (sound : IsSoundFound input) where
     columns = types-Project input.node (exprs_of (items_where keeps 0 input.columns)) ∙ kinds_of_passing keeps input.columns 0 input.columns;
   }
 
-  pub fewer : (same : I → I → Bool) (exact : Bool) (exprs : List Expr) (names : List (List ℕ)) → IsSoundAnswer (drop_rule same exact input exprs names)
+  pub fewer : (same : I → I → Bool) (exact : Bool) (exprs : List Expr) (names : List (List ℕ)) → IfOk (drop_rule same exact input exprs names) IsSoundFound
   unfolding drop_rule
   fewer same exact exprs names = then_holds IsSoundFound (all_checked (map (meant exact input.relations) exprs)) _ (λ all is. kept_sound (is_kept same exact all names))
 
@@ -62,7 +62,7 @@ module _ (exact : Bool) (fresh : ℕ → ℕ) (input : FoundOf ℕ) (sound : IsS
   abbrev Over : Item → Type 0
   Over = ItemOver (kinds input.columns)
 
-  plain_sound : (exprs : List Expr) → IsSoundAnswer (plain_projection nat_eq exact fresh input exprs)
+  plain_sound : (exprs : List Expr) → IfOk (plain_projection nat_eq exact fresh input exprs) IsSoundFound
   unfolding plain_projection
   plain_sound exprs = then_holds IsSoundFound (projected nat_eq exact input.columns input.relations exprs) _ (λ items is.
       projection_sound input sound fresh items (IfOk-at_ok (All Over) is (projected_over exact input.columns input.relations exprs)))
@@ -86,7 +86,7 @@ module _ (exact : Bool) (fresh : ℕ → ℕ) (input : FoundOf ℕ) (sound : IsS
         (numbered_over (replaced nat_eq exact added) input.columns replaced_over [] input.columns 0 refl refl)
         (All-filter (is_new nat_eq exact input.columns) Over added over)
 
-  more_sound : (aliases : List (Alias Expr)) → IsSoundAnswer (with_columns_rule nat_eq exact fresh input aliases)
+  more_sound : (aliases : List (Alias Expr)) → IfOk (with_columns_rule nat_eq exact fresh input aliases) IsSoundFound
   unfolding with_columns_rule
   more_sound aliases =
       then_holds IsSoundFound (added_items nat_eq exact input.columns input.relations aliases) _ (λ added is.
@@ -112,33 +112,33 @@ module _ (exact : Bool) (fresh : ℕ → ℕ) (input : FoundOf ℕ) (sound : IsS
       ∙ sym (kinds_of_made fresh input.columns (numbered key_value keys ++ found.items));
     }
 
-    aggregated_sound : (stars : Bool) (exprs : List Expr) → IsSoundAnswer (aggregated nat_eq exact fresh input stars keys exprs)
+    aggregated_sound : (stars : Bool) (exprs : List Expr) → IfOk (aggregated nat_eq exact fresh input stars keys exprs) IsSoundFound
     unfolding aggregated
     aggregated_sound stars exprs = then_holds IsSoundFound (grouped nat_eq exact input.columns input.relations stars (exprs_of keys) exprs []) _ (λ found is.
         grouped_sound found (IfOk-at_ok (AreGroupedOver exact input.columns input.relations (exprs_of keys) []) is
         (all_grouped exact input.columns input.relations (exprs_of keys) stars exprs [] [] tt)))
 
-  groups_sound : (group_type : ℤ) (groupings exprs : List Expr) → IsSoundAnswer (aggregate_rule nat_eq exact fresh input group_type groupings exprs)
+  groups_sound : (group_type : ℤ) (groupings exprs : List Expr) → IfOk (aggregate_rule nat_eq exact fresh input group_type groupings exprs) IsSoundFound
   unfolding aggregate_rule
   groups_sound group_type groupings exprs =
       then_holds IsSoundFound (grouping_only group_type) _ (λ u one.
       then_holds IsSoundFound (key_items nat_eq exact input.columns input.relations groupings) _ (λ keys are.
       aggregated_sound keys (IfOk-at_ok (All Over) are (keys_over exact input.columns input.relations groupings)) false exprs))
 
-  project_sound : (exprs : List Expr) → IsSoundAnswer (project_rule nat_eq exact fresh input exprs)
+  project_sound : (exprs : List Expr) → IfOk (project_rule nat_eq exact fresh input exprs) IsSoundFound
   unfolding project_rule
   project_sound exprs = either_way IsSoundFound (list_any has_aggregate exprs) _ _ (aggregated_sound [] (All-nil Over) true exprs) (plain_sound exprs)
 
-pub projections_sound : ProjectionsAreSound
+pub projections_sound : ProjectionsAre IsSoundFound
 projections_sound = record {
   values = λ exact fresh exprs input sound. plain_sound exact fresh input sound exprs;
   more_columns = λ exact fresh aliases input sound. more_sound exact fresh input sound aliases;
 }
 
-pub fewer_sound : (I : Type 0) → FewerColumnsAreSound I
+pub fewer_sound : (I : Type 0) → FewerColumnsAre I IsSoundFound
 fewer_sound I = record { fewer_columns = λ same exact exprs names input sound. fewer input sound same exact exprs names }
 
-pub aggregates_sound : AggregatesAreSound
+pub aggregates_sound : AggregatesAre IsSoundFound
 aggregates_sound = record {
   groups = λ exact fresh group_type groupings exprs input sound. groups_sound exact fresh input sound group_type groupings exprs;
   projections = λ exact fresh exprs input sound. project_sound exact fresh input sound exprs;

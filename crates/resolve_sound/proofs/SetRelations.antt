@@ -34,8 +34,8 @@ use Rattle.resolve_sets.specs.declared.aligned.Aligned.{Aligned}
 use Rattle.resolve_sets.specs.declared.aligned.Places.{Places}
 use Rattle.resolve_sets.specs.Aligning.{aligned, aligned_at, column_at, kind_together, typed_as}
 use Rattle.resolve_sets.specs.Sets.{aligned_column, as_kind, combined, is_union, is_whole, kind_numbered, left_value, own_value, places_of, right_value, set_column, set_rule, side, side_value, value_at}
-use Rattle.resolve_sound.specs.PairLaws.{SetOperationsAreSound}
-use Rattle.resolve_sound.specs.Sound.{IsSoundAnswer, IsSoundFound, kinds}
+use Rattle.resolve_sound.specs.PairLaws.{SetOperationsAre}
+use Rattle.resolve_sound.specs.Sound.{IsSoundFound, kinds}
 use Rattle.resolve_sound.proofs.Chains.{then_holds, there}
 use Rattle.resolve_sound.proofs.Places.{kinds_numbered}
 
@@ -268,7 +268,7 @@ module _ {I : Type 0} (exact : Bool) (fresh : ℕ → I) (left right : FoundOf I
         ∙ sym (kinds_numbered (aligned_column fresh left.columns right.columns) (λ one. one.kind) (λ n one. set_kind (fresh n) one.kind _ _) 0 ones);
       }
 
-  pub set_sound : (number : ℤ) (all named missing : Bool) → IsSoundAnswer (set_rule exact fresh left right number all named missing)
+  pub set_sound : (number : ℤ) (all named missing : Bool) → IfOk (set_rule exact fresh left right number all named missing) IsSoundFound
   unfolding set_rule
   set_sound number all named missing =
       then_holds IsSoundFound (or_refused _ (kind_numbered number)) _ (λ kind is.
@@ -277,5 +277,5 @@ module _ {I : Type 0} (exact : Bool) (fresh : ℕ → I) (left right : FoundOf I
       then_holds IsSoundFound (aligned left.columns right.columns places) _ (λ ones are.
       combined_sound kind all ones (IfOk-at_ok (All (IsFitting left.columns right.columns)) are (all_fit left.columns right.columns places))))))
 
-pub sets_sound : (I : Type 0) → SetOperationsAreSound I
+pub sets_sound : (I : Type 0) → SetOperationsAre I IsSoundFound
 sets_sound I = record { set_operations = λ exact fresh number all named missing left right on_left on_right. set_sound exact fresh left right on_left on_right number all named missing }

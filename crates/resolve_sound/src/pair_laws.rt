@@ -1,11 +1,12 @@
-ghost use Rattle.resolve_sound.specs.PairLaws.{JoinsAreSound, SetOperationsAreSound};
+ghost use Rattle.resolve_sound.specs.PairLaws.{JoinsAre, SetOperationsAre};
+ghost use Rattle.resolve_sound.specs.Sound.{IsSoundFound};
 
 /// Law: a join of sound relations is sound.
 pub fn joins_are_sound()
-    ensures { JoinsAreSound }
+    ensures { JoinsAre IsSoundFound }
 {}
 
 /// Law: a set operation of sound relations is sound.
 pub fn set_operations_are_sound<I>()
-    ensures { SetOperationsAreSound I }
+    ensures { SetOperationsAre I IsSoundFound }
 {}
