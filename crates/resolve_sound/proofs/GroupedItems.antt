@@ -127,7 +127,7 @@ module _ (exact : Bool) (columns : List (ColumnOf ℕ)) (relations : List (Tagge
       unfolding grouped_star
       star_grouped star =
           then_holds (AreGroupedOver before) (star_items exact columns star.unparsed_target) _ (λ meant is.
-          let h : All (ItemOver (kinds columns)) meant = IfOk-at_ok (All (ItemOver (kinds columns))) is (star_over exact columns star.unparsed_target) in
+          let h : All (ItemOver (kinds columns)) meant = IfOk-at_ok (All (ItemOver (kinds columns))) is (star_over exact columns relations star.unparsed_target) in
           then_holds (AreGroupedOver before) (regrouped_items columns keys meant) _ (λ items are. record {
             more = [];
             calls = no_more;

@@ -4,6 +4,8 @@ pub mod GroupedItems
 pub mod JoinedRelations
 pub mod KeptRelations
 pub mod MadeRelations
+pub mod NodeRows
+pub mod NullFacts
 pub mod Places
 pub mod PlainItems
 pub mod SetRelations

@@ -29,7 +29,7 @@ use Rattle.resolve_sound.specs.Sound.{IsSoundFound, kinds}
 use Rattle.resolve_sound.proofs.Chains.{either_way, found_holds, then_holds}
 use Rattle.resolve_sound.proofs.GroupedItems.{AreGroupedOver, all_grouped, key_values_over}
 use Rattle.resolve_sound.proofs.PlainItems.{all_added_over, keys_over, projected_over}
-use Rattle.resolve_sound.proofs.Places.{ItemOver, column_over, kinds_of_made, kinds_of_passing, numbered_over, passing_over}
+use Rattle.resolve_sound.proofs.Places.{ItemOver, OfEach, all_numbered, columns_over, kinds_of_made, kinds_of_passing, passing_over}
 
 -- ---- projections
 
@@ -58,6 +58,25 @@ module _ {I : Type 0} (input : FoundOf I) (sound : IsSoundFound input) where
   unfolding drop_rule
   fewer same exact exprs names = then_holds IsSoundFound (all_checked (map (meant exact input.relations) exprs)) _ (λ all is. kept_sound (is_kept same exact all names))
 
+-- ---- more columns
+
+module _ (exact : Bool) (columns : List (ColumnOf ℕ)) (P : Item → Type 0) (as_they_are : OfEach columns P column_item) (added : List Item) (hold : All P added) where
+  found_or : (o : Option Item) → IfSome o P → (item : Item) → P item → P (unwrap_or o item)
+  found_or (Some found) h item k = h
+  found_or None h item k = k
+
+  replaced_holds : OfEach columns P (replaced nat_eq exact added)
+  replaced_holds front c rest whole =
+      found_or (find (λ item. name_matches exact item.name c.name) added) (found_holds P (λ item. name_matches exact item.name c.name) added hold)
+      (column_item (length front) c) (as_they_are front c rest whole)
+
+  pub with_added_hold : All P (with_added nat_eq exact columns added)
+  with_added_hold =
+      All-append P (numbered_from (replaced nat_eq exact added) 0 columns) (filter (is_new nat_eq exact columns) added)
+      (all_numbered P (replaced nat_eq exact added) columns replaced_holds) (All-filter (is_new nat_eq exact columns) P added hold)
+
+-- ---- over expressions
+
 module _ (exact : Bool) (fresh : ℕ → ℕ) (input : FoundOf ℕ) (sound : IsSoundFound input) where
   abbrev Over : Item → Type 0
   Over = ItemOver (kinds input.columns)
@@ -67,24 +86,9 @@ module _ (exact : Bool) (fresh : ℕ → ℕ) (input : FoundOf ℕ) (sound : IsS
   plain_sound exprs = then_holds IsSoundFound (projected nat_eq exact input.columns input.relations exprs) _ (λ items is.
       projection_sound input sound fresh items (IfOk-at_ok (All Over) is (projected_over exact input.columns input.relations exprs)))
 
-  -- ---- more columns
-
   module _ (added : List Item) (over : All Over added) where
-    found_or : (o : Option Item) → IfSome o Over → (item : Item) → Over item → Over (unwrap_or o item)
-    found_or (Some found) h item k = h
-    found_or None h item k = k
-
-    replaced_over : (front : List (ColumnOf ℕ)) (c : ColumnOf ℕ) (rest : List (ColumnOf ℕ)) → front ++ c ∷ rest ≡ input.columns →
-        Over (replaced nat_eq exact added (length front) c)
-    replaced_over front c rest whole =
-        found_or (find (λ item. name_matches exact item.name c.name) added) (found_holds Over (λ item. name_matches exact item.name c.name) added over)
-        (column_item (length front) c) (subst (λ (cs : List (ColumnOf ℕ)). ItemOver (kinds cs) (column_item (length front) c)) whole (column_over front c rest (length front) refl))
-
     with_added_over : All Over (with_added nat_eq exact input.columns added)
-    with_added_over =
-        All-append Over (numbered_from (replaced nat_eq exact added) 0 input.columns) (filter (is_new nat_eq exact input.columns) added)
-        (numbered_over (replaced nat_eq exact added) input.columns replaced_over [] input.columns 0 refl refl)
-        (All-filter (is_new nat_eq exact input.columns) Over added over)
+    with_added_over = with_added_hold exact input.columns Over (columns_over input.columns) added over
 
   more_sound : (aliases : List (Alias Expr)) → IfOk (with_columns_rule nat_eq exact fresh input aliases) IsSoundFound
   unfolding with_columns_rule

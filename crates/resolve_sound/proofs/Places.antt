@@ -91,35 +91,43 @@ column_over front column columns place is =
 abbrev pub ItemOver : List DataType → Item → Type 0
 ItemOver columns item = IsOver columns item.expr
 
--- items that are made of the columns one by one, by a rule that looks at the columns before and behind
-pub numbered_over : {I : Type 0} (f : ℕ → ColumnOf I → Item) (all : List (ColumnOf I)) →
-    ((front : List (ColumnOf I)) (c : ColumnOf I) (rest : List (ColumnOf I)) → front ++ c ∷ rest ≡ all → ItemOver (kinds all) (f (length front) c)) →
-    (front columns : List (ColumnOf I)) (n : ℕ) → n ≡ length front → front ++ columns ≡ all → All (ItemOver (kinds all)) (numbered_from f n columns)
-numbered_over f all h front [] n is whole = All-nil (ItemOver (kinds all))
-numbered_over f all h front (c ∷ cs) n is whole =
-    All-cons (ItemOver (kinds all)) (f n c) (numbered_from f (suc n) cs) (subst (λ (m : ℕ). ItemOver (kinds all) (f m c)) (sym is) (h front c cs whole))
-    (numbered_over f all h (front ++ c ∷ []) cs (suc n) (omega (arith, length_push front c)) (append_assoc front (c ∷ []) cs ∙ whole))
+-- what holds of every item that is made of a column which stands behind others
+abbrev pub OfEach : {I : Type 0} → List (ColumnOf I) → (Item → Type 0) → (ℕ → ColumnOf I → Item) → Type 0
+OfEach {I = I} all P make = (front : List (ColumnOf I)) (c : ColumnOf I) (rest : List (ColumnOf I)) → front ++ c ∷ rest ≡ all → P (make (length front) c)
+
+numbered_hold : {I : Type 0} (P : Item → Type 0) (make : ℕ → ColumnOf I → Item) (all : List (ColumnOf I)) → OfEach all P make →
+    (front columns : List (ColumnOf I)) (n : ℕ) → n ≡ length front → front ++ columns ≡ all → All P (numbered_from make n columns)
+numbered_hold P make all h front [] n is whole = All-nil P
+numbered_hold P make all h front (c ∷ cs) n is whole =
+    All-cons P (make n c) (numbered_from make (suc n) cs) (subst (λ (m : ℕ). P (make m c)) (sym is) (h front c cs whole))
+    (numbered_hold P make all h (front ++ c ∷ []) cs (suc n) (omega (arith, length_push front c)) (append_assoc front (c ∷ []) cs ∙ whole))
+
+pub all_numbered : {I : Type 0} (P : Item → Type 0) (make : ℕ → ColumnOf I → Item) (all : List (ColumnOf I)) → OfEach all P make → All P (numbered_from make 0 all)
+all_numbered P make all h = numbered_hold P make all h [] all 0 refl refl
 
 -- the columns that pass, as they are
+module _ {I : Type 0} (P : Item → Type 0) (passes : ColumnOf I → Bool) (all : List (ColumnOf I)) (h : OfEach all P column_item) where
+  one_holds : (n : ℕ) (c : ColumnOf I) → P (column_item n c) → (b : Bool) → All P (item_where b n c)
+  one_holds n c p true = All-cons P (column_item n c) [] p (All-nil P)
+  one_holds n c p false = All-nil P
+
+  where_hold : (front columns : List (ColumnOf I)) (n : ℕ) → n ≡ length front → front ++ columns ≡ all → All P (items_where passes n columns)
+  where_hold front [] n is whole = All-nil P
+  where_hold front (c ∷ cs) n is whole =
+      All-append P (item_where (passes c) n c) (items_where passes (suc n) cs)
+      (one_holds n c (subst (λ (m : ℕ). P (column_item m c)) (sym is) (h front c cs whole)) (passes c))
+      (where_hold (front ++ c ∷ []) cs (suc n) (omega (arith, length_push front c)) (append_assoc front (c ∷ []) cs ∙ whole))
+
+  pub all_passing : All P (items_where passes 0 all)
+  all_passing = where_hold [] all 0 refl refl
+
+-- columns as they are, are over the columns
+pub columns_over : {I : Type 0} (all : List (ColumnOf I)) → OfEach all (ItemOver (kinds all)) column_item
+columns_over all front c rest whole = subst (λ (cs : List (ColumnOf _)). IsOver (kinds cs) (V.Column (length front) c.kind)) whole (column_over front c rest (length front) refl)
+
 module _ {I : Type 0} (passes : ColumnOf I → Bool) (all : List (ColumnOf I)) where
-  abbrev Over : List Item → Type 0
-  Over = All (ItemOver (kinds all))
-
-  one_over : (front : List (ColumnOf I)) (c : ColumnOf I) (rest : List (ColumnOf I)) (n : ℕ) → n ≡ length front → front ++ c ∷ rest ≡ all →
-      (b : Bool) → Over (item_where b n c)
-  one_over front c rest n is whole true =
-      All-cons (ItemOver (kinds all)) (column_item n c) []
-      (subst (λ (cs : List (ColumnOf I)). IsOver (kinds cs) (V.Column n c.kind)) whole (column_over front c rest n is)) (All-nil (ItemOver (kinds all)))
-  one_over front c rest n is whole false = All-nil (ItemOver (kinds all))
-
-  where_over : (front columns : List (ColumnOf I)) (n : ℕ) → n ≡ length front → front ++ columns ≡ all → Over (items_where passes n columns)
-  where_over front [] n is whole = All-nil (ItemOver (kinds all))
-  where_over front (c ∷ cs) n is whole =
-      All-append (ItemOver (kinds all)) (item_where (passes c) n c) (items_where passes (suc n) cs) (one_over front c cs n is whole (passes c))
-      (where_over (front ++ c ∷ []) cs (suc n) (omega (arith, length_push front c)) (append_assoc front (c ∷ []) cs ∙ whole))
-
-  pub passing_over : Over (items_where passes 0 all)
-  passing_over = where_over [] all 0 refl refl
+  pub passing_over : All (ItemOver (kinds all)) (items_where passes 0 all)
+  passing_over = all_passing (ItemOver (kinds all)) passes all (columns_over all)
 
   one_kind : (n : ℕ) (c : ColumnOf I) (cs : List (ColumnOf I)) (items : List Item) → kinds_of (exprs_of items) ≡ kinds cs → (b : Bool) →
       kinds_of (exprs_of (item_where b n c ++ items)) ≡ kinds (cond b (c ∷ cs) cs)

@@ -16,77 +16,92 @@ use Rattle.resolve_functions.specs.Arguments.{untyped}
 use Rattle.resolve_expressions.specs.declared.item.Item.{Item}
 use Rattle.resolve_expressions.specs.Items.{Itemized, alias_of, attribute_title, item_by, item_of, one_name, typed_item}
 use Rattle.resolve_expressions.specs.Outputs.{added_item, added_items, key_items, plain_item, projected, projected_by, star_of, value_of}
-use Rattle.resolve_expressions.specs.Stars.{any_column, has_qualifier, items_where, qualified, some_items, star_items, target_name}
+use Rattle.resolve_expressions.specs.Stars.{any_column, column_item, has_qualifier, items_where, qualified, some_items, star_items, target_name}
 use Rattle.resolve_expressions.specs.Titles.{title}
 use Rattle.resolve_expressions.specs.Typings.{typed_over}
 use Rattle.resolve_expressions.proofs.TypedFacts.{values_are_well_formed}
 use Rattle.resolve_sound.specs.Sound.{kinds}
 use Rattle.resolve_sound.proofs.Chains.{all_hold, then_holds}
-use Rattle.resolve_sound.proofs.Places.{ItemOver, passing_over}
+use Rattle.resolve_sound.proofs.Places.{ItemOver, OfEach, all_passing, columns_over}
 
--- ---- stars
+-- ---- what holds of items, where it holds of columns as they are and of expressions with their types
 
-module _ {I : Type 0} (exact : Bool) (columns : List (ColumnOf I)) where
-  abbrev AllOver : List Item → Type 0
-  AllOver = All (ItemOver (kinds columns))
+module _ (exact : Bool) (columns : List (ColumnOf ℕ)) (relations : List (Tagged ℕ)) (P : Item → Type 0) where
+  abbrev Here : Itemized → Type 0
+  Here itemized = P itemized.item
 
-  some_over : (identifier : List ℕ) (items : List Item) → AllOver items → IfOk (some_items identifier items) AllOver
-  some_over identifier [] h = tt
-  some_over identifier (item ∷ items) h = h
+  abbrev pub TypedHold : Type 0
+  TypedHold = (name : List ℕ) (bare : Bool) (expr : Expr) → IfOk (typed_item nat_eq exact columns relations name bare expr false []) (λ itemized. P itemized.item)
 
-  pub star_over : (target : Option (List ℕ)) → IfOk (star_items exact columns target) AllOver
-  unfolding star_items
-  star_over None = passing_over any_column columns
-  star_over (Some target) = then_holds AllOver (parts_of (target_name target)) _ (λ parts is.
-      some_over (target_name target) (items_where (has_qualifier exact parts) 0 columns) (passing_over (has_qualifier exact parts) columns))
+  some_hold : (identifier : List ℕ) (items : List Item) → All P items → IfOk (some_items identifier items) (All P)
+  some_hold identifier [] h = tt
+  some_hold identifier (item ∷ items) h = h
 
--- ---- expressions
+  module _ (as_they_are : OfEach columns P column_item) where
+    pub star_holds : (target : Option (List ℕ)) → IfOk (star_items exact columns target) (All P)
+    unfolding star_items
+    star_holds None = all_passing P any_column columns as_they_are
+    star_holds (Some target) = then_holds (All P) (parts_of (target_name target)) _ (λ parts is.
+        some_hold (target_name target) (items_where (has_qualifier exact parts) 0 columns) (all_passing P (has_qualifier exact parts) columns as_they_are))
+
+  module _ (typed : TypedHold) where
+    by_holds : (alias : Option (Alias Expr)) (expr : Expr) → IfOk (item_by nat_eq exact columns relations alias expr false []) Here
+    by_holds (Some alias) expr = then_holds Here (one_name alias.name) _ (λ name is. typed name false alias.expr)
+    by_holds None expr = typed (title (attribute_title nat_eq exact columns relations) expr) true expr
+
+    plain_holds : (expr : Expr) → IfOk (plain_item nat_eq exact columns relations expr) P
+    unfolding plain_item item_of
+    plain_holds expr = then_holds P (item_by nat_eq exact columns relations (alias_of expr) expr false []) _ (λ itemized is.
+        IfOk-at_ok Here is (by_holds (alias_of expr) expr))
+
+    pub keys_hold : (exprs : List Expr) → IfOk (key_items nat_eq exact columns relations exprs) (All P)
+    unfolding key_items
+    keys_hold = all_hold P (plain_item nat_eq exact columns relations) plain_holds
+
+    added_holds : (alias : Alias Expr) → IfOk (added_item nat_eq exact columns relations alias) P
+    unfolding added_item
+    added_holds alias = then_holds P (item_by nat_eq exact columns relations (Some alias) alias.expr false []) _ (λ itemized is.
+        IfOk-at_ok Here is (by_holds (Some alias) alias.expr))
+
+    pub all_added_hold : (aliases : List (Alias Expr)) → IfOk (added_items nat_eq exact columns relations aliases) (All P)
+    unfolding added_items
+    all_added_hold = all_hold P (added_item nat_eq exact columns relations) added_holds
+
+    module _ (as_they_are : OfEach columns P column_item) where
+      one_holds : (star : Option UnresolvedStar) (expr : Expr) → IfOk (projected_by nat_eq exact columns relations star expr) (All P)
+      one_holds (Some star) expr = star_holds as_they_are star.unparsed_target
+      one_holds None expr = then_holds (All P) (plain_item nat_eq exact columns relations expr) _ (λ item is.
+          All-cons P item [] (IfOk-at_ok P is (plain_holds expr)) (All-nil P))
+
+      pub projected_hold : (exprs : List Expr) → IfOk (projected nat_eq exact columns relations exprs) (All P)
+      unfolding projected
+      projected_hold [] = All-nil P
+      projected_hold (expr ∷ exprs) =
+          then_holds (All P) (projected_by nat_eq exact columns relations (star_of expr) expr) _ (λ first is.
+          then_holds (All P) (projected nat_eq exact columns relations exprs) _ (λ rest are.
+          All-append P first rest (IfOk-at_ok (All P) is (one_holds (star_of expr) expr)) (IfOk-at_ok (All P) are (projected_hold exprs))))
+
+-- ---- they are over the columns
 
 module _ (exact : Bool) (columns : List (ColumnOf ℕ)) (relations : List (Tagged ℕ)) where
   abbrev Over : Item → Type 0
   Over = ItemOver (kinds columns)
 
-  abbrev OverHere : Itemized → Type 0
-  OverHere itemized = Over itemized.item
-
-  typed_over_columns : (name : List ℕ) (bare : Bool) (expr : Expr) → IfOk (typed_item nat_eq exact columns relations name bare expr false []) OverHere
+  typed_over_columns : TypedHold exact columns relations Over
   unfolding value_of
   typed_over_columns name bare expr =
-      then_holds OverHere (typed_over nat_eq exact columns relations expr false []) _ (λ typing is.
-      then_holds OverHere (or_refused untyped typing.expr) _ (λ typed there_is.
+      then_holds (λ itemized. Over itemized.item) (typed_over nat_eq exact columns relations expr false []) _ (λ typing is.
+      then_holds (λ itemized. Over itemized.item) (or_refused untyped typing.expr) _ (λ typed there_is.
       values_are_well_formed exact columns relations expr typed (ap (λ (o : Checked _). o >>= λ t. or_refused untyped t.expr) is ∙ there_is)))
 
-  item_by_over : (alias : Option (Alias Expr)) (expr : Expr) → IfOk (item_by nat_eq exact columns relations alias expr false []) OverHere
-  item_by_over (Some alias) expr = then_holds OverHere (one_name alias.name) _ (λ name is. typed_over_columns name false alias.expr)
-  item_by_over None expr = typed_over_columns (title (attribute_title nat_eq exact columns relations) expr) true expr
-
-  plain_over : (expr : Expr) → IfOk (plain_item nat_eq exact columns relations expr) Over
-  unfolding plain_item item_of
-  plain_over expr = then_holds Over (item_by nat_eq exact columns relations (alias_of expr) expr false []) _ (λ itemized is.
-      IfOk-at_ok OverHere is (item_by_over (alias_of expr) expr))
+  pub star_over : (target : Option (List ℕ)) → IfOk (star_items exact columns target) (All Over)
+  star_over = star_holds exact columns relations Over (columns_over columns)
 
   pub keys_over : (exprs : List Expr) → IfOk (key_items nat_eq exact columns relations exprs) (All Over)
-  unfolding key_items
-  keys_over = all_hold Over (plain_item nat_eq exact columns relations) plain_over
-
-  added_over : (alias : Alias Expr) → IfOk (added_item nat_eq exact columns relations alias) Over
-  unfolding added_item
-  added_over alias = then_holds Over (item_by nat_eq exact columns relations (Some alias) alias.expr false []) _ (λ itemized is.
-      IfOk-at_ok OverHere is (item_by_over (Some alias) alias.expr))
+  keys_over = keys_hold exact columns relations Over typed_over_columns
 
   pub all_added_over : (aliases : List (Alias Expr)) → IfOk (added_items nat_eq exact columns relations aliases) (All Over)
-  unfolding added_items
-  all_added_over = all_hold Over (added_item nat_eq exact columns relations) added_over
-
-  one_over : (star : Option UnresolvedStar) (expr : Expr) → IfOk (projected_by nat_eq exact columns relations star expr) (All Over)
-  one_over (Some star) expr = star_over exact columns star.unparsed_target
-  one_over None expr = then_holds (All Over) (plain_item nat_eq exact columns relations expr) _ (λ item is.
-      All-cons Over item [] (IfOk-at_ok Over is (plain_over expr)) (All-nil Over))
+  all_added_over = all_added_hold exact columns relations Over typed_over_columns
 
   pub projected_over : (exprs : List Expr) → IfOk (projected nat_eq exact columns relations exprs) (All Over)
-  unfolding projected
-  projected_over [] = All-nil Over
-  projected_over (expr ∷ exprs) =
-      then_holds (All Over) (projected_by nat_eq exact columns relations (star_of expr) expr) _ (λ first is.
-      then_holds (All Over) (projected nat_eq exact columns relations exprs) _ (λ rest are.
-      All-append Over first rest (IfOk-at_ok (All Over) is (one_over (star_of expr) expr)) (IfOk-at_ok (All Over) are (projected_over exprs))))
+  projected_over = projected_hold exact columns relations Over typed_over_columns (columns_over columns)
