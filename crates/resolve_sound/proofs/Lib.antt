@@ -6,6 +6,8 @@ pub mod KeptRelations
 pub mod MadeRelations
 pub mod NodeRows
 pub mod NullFacts
+pub mod NullItems
+pub mod NullRelations
 pub mod Places
 pub mod PlainItems
 pub mod SetRelations
