@@ -163,7 +163,7 @@ module _ (left right : List DataType) (width : ℕ) (wide : width ≡ length lef
 
 -- ---- the items of a join by keys
 
-at_place : {X : Type 0} (P : X → Type 0) (xs : List X) (place : ℕ) → All P xs → IfSome (slice_get xs place) P
+pub at_place : {X : Type 0} (P : X → Type 0) (xs : List X) (place : ℕ) → All P xs → IfSome (slice_get xs place) P
 at_place P [] place all = tt
 at_place P (x ∷ xs) zero all = All-head P x xs all
 at_place P (x ∷ xs) (suc n) all = at_place P xs n (All-tail P x xs all)
@@ -172,7 +172,7 @@ maybe_more : {X : Type 0} (P : X → Type 0) (o : Option X) (xs : List X) → If
 maybe_more P (Some x) xs h all = All-cons P x xs h all
 maybe_more P None xs h all = all
 
-all_given : {X Y : Type 0} (P : Y → Type 0) (Q : X → Type 0) (f : X → Option Y) → ((x : X) → Q x → IfSome (f x) P) → (xs : List X) → All Q xs → All P (filter_map f xs)
+pub all_given : {X Y : Type 0} (P : Y → Type 0) (Q : X → Type 0) (f : X → Option Y) → ((x : X) → Q x → IfSome (f x) P) → (xs : List X) → All Q xs → All P (filter_map f xs)
 all_given P Q f h [] all = All-nil P
 all_given P Q f h (x ∷ xs) all = maybe_more P (f x) (filter_map f xs) (h x (All-head Q x xs all)) (all_given P Q f h xs (All-tail Q x xs all))
 

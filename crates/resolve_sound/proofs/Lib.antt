@@ -7,8 +7,11 @@ pub mod MadeRelations
 pub mod NodeRows
 pub mod NullFacts
 pub mod NullItems
+pub mod NullJoins
 pub mod NullRelations
+pub mod NullSets
 pub mod Places
 pub mod PlainItems
+pub mod PresentCasts
 pub mod SetRelations
 pub mod Wider

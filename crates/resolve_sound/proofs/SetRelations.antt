@@ -125,12 +125,12 @@ turned K.Date K.Date = refl
 -- ---- what becomes one column
 
 -- the side's column, where it has one, may be cast to this type
-abbrev Casts : {I : Type 0} → DataType → Option (ColumnOf I) → Type 0
+abbrev pub Casts : {I : Type 0} → DataType → Option (ColumnOf I) → Type 0
 Casts kind column = IfSome column (λ c. can_cast c.kind kind ≡ true)
 
-record IsFitting {I : Type 0} (left right : List (ColumnOf I)) (one : Aligned) : Type 0 where
-  on_left : Casts one.kind (column_at left one.left)
-  on_right : Casts one.kind (column_at right one.right)
+pub record IsFitting {I : Type 0} (left right : List (ColumnOf I)) (one : Aligned) : Type 0 where
+  pub on_left : Casts one.kind (column_at left one.left)
+  pub on_right : Casts one.kind (column_at right one.right)
 
 module _ {I : Type 0} (left right : List (ColumnOf I)) where
   one_kind : (a : ColumnOf I) (kind : DataType) → ◌≡◌ {A = Option DataType} (Some a.kind) (Some kind) → can_cast a.kind kind ≡ true
@@ -149,7 +149,7 @@ module _ {I : Type 0} (left right : List (ColumnOf I)) where
       let casts = both_cast (column_at left places.left) (column_at right places.right) kind is in
       record { on_left = casts.0; on_right = casts.1 }
 
-  all_fit : (places : List Places) → IfOk (aligned left right places) (All (IsFitting left right))
+  pub all_fit : (places : List Places) → IfOk (aligned left right places) (All (IsFitting left right))
   unfolding aligned
   all_fit places = each_holds (IsFitting left right) (numbered (aligned_at left right) places)
       (each_numbered (λ (o : Checked Aligned). IfOk o (IsFitting left right)) (aligned_at left right) (λ n one. there (IsFitting left right) _ _ (fits_as one _ refl)) 0 places)
@@ -167,7 +167,7 @@ module _ {I : Type 0} (columns : List (ColumnOf I)) where
   null_over : (kind : DataType) → IsValue (kinds columns) kind (T.Literal Value.Null kind)
   null_over kind = record { over = made-Literal Form Value.Null kind tt; typed = kind_of-Literal Value.Null kind }
 
-  own_over : (place : ℕ) (column : ColumnOf I) → slice_get columns place ≡ Some column → IsOver (kinds columns) (own_value place column)
+  pub own_over : (place : ℕ) (column : ColumnOf I) → slice_get columns place ≡ Some column → IsOver (kinds columns) (own_value place column)
   own_over place column is = made-Column Form place column.kind (slice_get-map (λ c. c.kind) columns place ∙ ap (option_map (λ c. c.kind)) is)
 
   cast_over : (kind : DataType) (place : ℕ) (column : ColumnOf I) → slice_get columns place ≡ Some column → can_cast column.kind kind ≡ true →
@@ -212,7 +212,7 @@ module _ {I : Type 0} (columns : List (ColumnOf I)) where
         ap (λ (k : DataType). k ∷ kinds_of (map value all)) (side_over one.kind (place one) (All-head Fitting one all fit)).typed
         ∙ ap (λ (ks : List DataType). one.kind ∷ ks) (values_typed all (All-tail Fitting one all fit))
 
-all_are : (exprs others : List TypedExpr) → all_same (map same_expr exprs) others ≡ true → exprs ≡ others
+pub all_are : (exprs others : List TypedExpr) → all_same (map same_expr exprs) others ≡ true → exprs ≡ others
 all_are [] [] e = refl
 all_are [] (other ∷ others) e = absurd (let h : ⊥ = cc in h)
 all_are (expr ∷ exprs) [] e = absurd (let h : ⊥ = cc in h)
