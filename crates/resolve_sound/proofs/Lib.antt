@@ -1,11 +1,14 @@
 -- Facts for the laws of sound relations.
 pub mod Chains
+pub mod CountValues
 pub mod GroupedItems
 pub mod JoinedRelations
+pub mod KeptCalls
 pub mod KeptRelations
 pub mod MadeRelations
 pub mod NodeRows
 pub mod NullFacts
+pub mod NullGroups
 pub mod NullItems
 pub mod NullJoins
 pub mod NullRelations

@@ -10,8 +10,8 @@ pub use laws::{
     renamed_relations_are_sound, tested_relations_are_sound,
 };
 pub use null_laws::{
-    fewer_columns_tell_nulls, kept_relations_tell_nulls, leaves_tell_nulls, projections_tell_nulls,
-    renamed_relations_tell_nulls, tested_relations_tell_nulls,
+    aggregates_tell_nulls, fewer_columns_tell_nulls, kept_relations_tell_nulls, leaves_tell_nulls,
+    projections_tell_nulls, renamed_relations_tell_nulls, tested_relations_tell_nulls,
 };
 pub use pair_laws::{
     joins_are_sound, joins_tell_nulls, set_operations_are_sound, set_operations_tell_nulls,

@@ -1,4 +1,4 @@
-ghost use Rattle.resolve_sound.specs.Laws.{FewerColumnsAre, KeptRelationsAre, LeavesAre, ProjectionsAre, RenamedRelationsAre, TestedRelationsAre};
+ghost use Rattle.resolve_sound.specs.Laws.{AggregatesAre, FewerColumnsAre, KeptRelationsAre, LeavesAre, ProjectionsAre, RenamedRelationsAre, TestedRelationsAre};
 ghost use Rattle.resolve_sound.specs.Sound.{HaveSafeRows, IsNullSafe};
 
 /// Law: `limit`, `offset`, an alias and `deduplicate` keep the nulls of a relation where its columns may have them.
@@ -29,4 +29,9 @@ pub fn fewer_columns_tell_nulls<I>()
 /// Law: so has a projection, and a relation with more columns.
 pub fn projections_tell_nulls()
     ensures { ProjectionsAre IsNullSafe }
+{}
+
+/// Law: so has an aggregate.
+pub fn aggregates_tell_nulls()
+    ensures { AggregatesAre IsNullSafe }
 {}
