@@ -36,7 +36,8 @@ module _ {I : Type 0} (passes : ColumnOf I → Bool) (columns : List (ColumnOf I
   left_one column within is failed = ap (λ (l : List TypedExpr). front ++ l) (sym (from-next column within is ∙ ap (headed column) failed))
 
   pub kept_end : length columns ≤ at → front ++ from at ≡ front
-  kept_end past = ap (λ (l : List (ColumnOf I)). front ++ exprs_of (items_where passes at l)) (drop_of_length-le columns past) ∙ append-nil front
+  kept_end past = ap (λ (l : List (ColumnOf I)). front ++ exprs_of (items_where passes at l)) (drop_of_length-le columns past)
+      ∙ append-nil front
 
 pub ruleset kept_steps = (kept_one, left_one, kept_end)
 
@@ -47,9 +48,11 @@ module _ {I : Type 0} (exact : Bool) (parts : List (List ℕ)) (columns : List (
   ids n = ids_named exact parts (drop n columns)
 
   abbrev with_one : ColumnOf I → Bool → List I
-  with_one column test = map (λ c. c.id) (cond test (column ∷ filter (is_named exact parts) (drop (at + 1) columns)) (filter (is_named exact parts) (drop (at + 1) columns)))
+  with_one column test = map (λ c. c.id) (cond test (column ∷ filter (is_named exact parts) (drop (at + 1) columns))
+      (filter (is_named exact parts) (drop (at + 1) columns)))
 
-  ids-next : (column : ColumnOf I) → at < length columns → column ≡ get_or columns at column → ids at ≡ with_one column (is_named exact parts column)
+  ids-next : (column : ColumnOf I) → at < length columns → column ≡ get_or columns at column →
+      ids at ≡ with_one column (is_named exact parts column)
   ids-next column within is =
       ap (ids_named exact parts) (drop_next columns at column within)
       ∙ ap (λ (c : ColumnOf I). with_one c (is_named exact parts c)) (sym is)

@@ -9,7 +9,8 @@ use Rattle.resolve_types.specs.Calls.{unless}
 use Rattle.resolve_expressions.specs.Grouping.{all_checked}
 
 -- of what comes behind a check, where it is known what the check answered
-pub then_holds : {A B : Type 0} (P : B → Type 0) (o : Checked A) (k : A → Checked B) → ((x : A) → o ≡ Ok x → IfOk (k x) P) → IfOk (o >>= k) P
+pub then_holds : {A B : Type 0} (P : B → Type 0) (o : Checked A) (k : A → Checked B) → ((x : A) → o ≡ Ok x → IfOk (k x) P) →
+    IfOk (o >>= k) P
 then_holds P (Ok x) k h = h x refl
 then_holds P (Err stop) k h = tt
 
@@ -30,7 +31,8 @@ either_way P true x y h k = h
 either_way P false x y h k = k
 
 -- of each of a list of checks
-pub all_hold : {A B : Type 0} (P : B → Type 0) (f : A → Checked B) → ((x : A) → IfOk (f x) P) → (xs : List A) → IfOk (all_checked (map f xs)) (All P)
+pub all_hold : {A B : Type 0} (P : B → Type 0) (f : A → Checked B) → ((x : A) → IfOk (f x) P) → (xs : List A) →
+    IfOk (all_checked (map f xs)) (All P)
 all_hold P f h [] = All-nil P
 all_hold P f h (x ∷ xs) =
     then_holds (All P) (f x) _ (λ y is.
@@ -38,7 +40,8 @@ all_hold P f h (x ∷ xs) =
     All-cons P y ys (IfOk-at_ok P is (h x)) (IfOk-at_ok (All P) are (all_hold P f h xs))))
 
 -- the same, where something is known of what is checked
-pub all_hold_of : {A B : Type 0} (P : A → Type 0) (Q : B → Type 0) (f : A → Checked B) → ((x : A) → P x → IfOk (f x) Q) → (xs : List A) → All P xs →
+pub all_hold_of : {A B : Type 0} (P : A → Type 0) (Q : B → Type 0) (f : A → Checked B) → ((x : A) → P x → IfOk (f x) Q) → (xs : List A) →
+    All P xs →
     IfOk (all_checked (map f xs)) (All Q)
 all_hold_of P Q f h [] all = All-nil Q
 all_hold_of P Q f h (x ∷ xs) all =

@@ -8,7 +8,8 @@ use Rattle.plan_model.specs.Aggregates.{aggregate_of, called_over, rows_aggregat
 use Rattle.resolve_types.specs.Calls.{is_count}
 use Rattle.resolve_sound.proofs.NullFacts.{May}
 
-pub count_may : (function : Function) (distinct : Bool) (argument : Option TypedExpr) (rows : List Row) → May (not (is_count function)) (called_over function distinct argument rows)
+pub count_may : (function : Function) (distinct : Bool) (argument : Option TypedExpr) (rows : List Row) →
+    May (not (is_count function)) (called_over function distinct argument rows)
 unfolding aggregate_of rows_aggregate_of
 count_may Function.Count distinct None rows = refl
 count_may Function.Count distinct (Some argument) rows = refl

@@ -66,16 +66,18 @@ module _ {I : Type 0} (left right : FoundOf I) (on_left : IsSoundFound left) (on
   abbrev Columns : List DataType
   Columns = kinds left.columns ++ kinds right.columns
 
-  joined_sound : (kind : JoinKind) (condition : Option TypedExpr) → IfSome condition (IsCondition Columns) → IsSoundFound (joined kind left right condition)
+  joined_sound : (kind : JoinKind) (condition : Option TypedExpr) → IfSome condition (IsCondition Columns) →
+      IsSoundFound (joined kind left right condition)
   joined_sound kind condition holds = record {
     node = made-Join IsSound left.node right.node kind condition
-    (subst (λ (ks : List DataType). IfSome condition (IsCondition ks))
-    (ap (λ (ks : List DataType). ks ++ kinds right.columns) (sym on_left.columns) ∙ ap (λ (ks : List DataType). types left.node ++ ks) (sym on_right.columns)) holds)
-    on_left.node on_right.node;
+        (subst (λ (ks : List DataType). IfSome condition (IsCondition ks))
+        (ap (λ (ks : List DataType). ks ++ kinds right.columns) (sym on_left.columns)
+        ∙ ap (λ (ks : List DataType). types left.node ++ ks) (sym on_right.columns)) holds)
+        on_left.node on_right.node;
     columns = types-Join left.node right.node kind condition
-    ∙ ap (λ (ks : List DataType). join_types kind ks (types right.node)) on_left.columns
-    ∙ ap (λ (ks : List DataType). join_types kind (kinds left.columns) ks) on_right.columns
-    ∙ sym (joined_kinds left.columns right.columns kind);
+        ∙ ap (λ (ks : List DataType). join_types kind ks (types right.node)) on_left.columns
+        ∙ ap (λ (ks : List DataType). join_types kind (kinds left.columns) ks) on_right.columns
+        ∙ sym (joined_kinds left.columns right.columns kind);
   }
 
 -- ---- keys
@@ -85,7 +87,8 @@ record IsKey (left right : List DataType) (key : KeyPair) : Type 0 where
   on_right : slice_get right key.right ≡ Some key.right_kind
   together : common key.left_kind key.right_kind ≡ Some key.kind
 
-kind_at : {I : Type 0} (columns : List (ColumnOf I)) (place : ℕ) (column : ColumnOf I) → slice_get columns place ≡ Some column → slice_get (kinds columns) place ≡ Some column.kind
+kind_at : {I : Type 0} (columns : List (ColumnOf I)) (place : ℕ) (column : ColumnOf I) → slice_get columns place ≡ Some column →
+    slice_get (kinds columns) place ≡ Some column.kind
 kind_at columns place column is = slice_get-map (λ c. c.kind) columns place ∙ ap (option_map (λ c. c.kind)) is
 
 module _ {I : Type 0} (exact : Bool) (left right : List (ColumnOf I)) where
@@ -95,10 +98,12 @@ module _ {I : Type 0} (exact : Bool) (left right : List (ColumnOf I)) where
   abbrev pair_of : ℕ → ℕ → ColumnOf I → ColumnOf I → DataType → KeyPair
   pair_of l r a b kind = record { left = l; left_kind = a.kind; right = r; right_kind = b.kind; kind = kind }
 
-  typed_key : (l r : ℕ) (a b : ColumnOf I) → slice_get left l ≡ Some a → slice_get right r ≡ Some b → (kind : Option DataType) → common a.kind b.kind ≡ kind →
+  typed_key : (l r : ℕ) (a b : ColumnOf I) → slice_get left l ≡ Some a → slice_get right r ≡ Some b → (kind : Option DataType) →
+      common a.kind b.kind ≡ kind →
       IfSome (option_map (pair_of l r a b) kind) Key
   typed_key l r a b on_left on_right None is = tt
-  typed_key l r a b on_left on_right (Some kind) is = record { on_left = kind_at left l a on_left; on_right = kind_at right r b on_right; together = is }
+  typed_key l r a b on_left on_right (Some kind) is =
+      record { on_left = kind_at left l a on_left; on_right = kind_at right r b on_right; together = is }
 
   paired_key : (l r : ℕ) (a b : Option (ColumnOf I)) → slice_get left l ≡ a → slice_get right r ≡ b → IfSome (paired l r a b) Key
   paired_key l r (Some a) (Some b) on_left on_right = typed_key l r a b on_left on_right (common a.kind b.kind) refl
@@ -124,10 +129,12 @@ module _ (left right : List DataType) (width : ℕ) (wide : width ≡ length lef
     left_over = made-Column Form key.left key.left_kind (get_more left right key.left key.left_kind is_key.on_left)
 
     right_over : IsOver Sides (right_value width key)
-    right_over = made-Column Form (width + key.right) key.right_kind (get_behind left right key.right (width + key.right) (ap (λ (n : ℕ). n + key.right) wide) ∙ is_key.on_right)
+    right_over = made-Column Form (width + key.right) key.right_kind
+        (get_behind left right key.right (width + key.right) (ap (λ (n : ℕ). n + key.right) wide) ∙ is_key.on_right)
 
     -- their types
-    sides_common : (f : Option DataType → Option DataType) → f (common (kind_of (left_value key)) (kind_of (right_value width key))) ≡ f (Some key.kind)
+    sides_common : (f : Option DataType → Option DataType) →
+        f (common (kind_of (left_value key)) (kind_of (right_value width key))) ≡ f (Some key.kind)
     sides_common f =
         ap (λ (a : DataType). f (common a (kind_of (right_value width key)))) (kind_of-Column key.left key.left_kind)
         ∙ ap (λ (b : DataType). f (common key.left_kind b)) (kind_of-Column (width + key.right) key.right_kind)
@@ -136,22 +143,25 @@ module _ (left right : List DataType) (width : ℕ) (wide : width ≡ length lef
     equal_over : IsCondition Sides (are_equal width key)
     unfolding call_type
     equal_over = record {
-      over = made-Call Form Function.EqualTo (left_value key ∷ right_value width key ∷ []) DataType.Boolean (sides_common (always DataType.Boolean)) (left_over, (right_over, tt));
+      over = made-Call Form Function.EqualTo (left_value key ∷ right_value width key ∷ []) DataType.Boolean
+          (sides_common (always DataType.Boolean)) (left_over, (right_over, tt));
       boolean = kind_of-Call Function.EqualTo (left_value key ∷ right_value width key ∷ []) DataType.Boolean;
     }
 
     coalesced_over : IsOver Sides (T.Call Function.Coalesce (left_value key ∷ right_value width key ∷ []) key.kind)
     unfolding call_type
-    coalesced_over = made-Call Form Function.Coalesce (left_value key ∷ right_value width key ∷ []) key.kind (sides_common (λ o. o)) (left_over, (right_over, tt))
+    coalesced_over = made-Call Form Function.Coalesce (left_value key ∷ right_value width key ∷ []) key.kind (sides_common (λ o. o))
+        (left_over, (right_over, tt))
 
-  both_over : (test : TypedExpr) (rest : Option TypedExpr) → IsCondition Sides test → IfSome rest (IsCondition Sides) → IsCondition Sides (both test rest)
+  both_over : (test : TypedExpr) (rest : Option TypedExpr) → IsCondition Sides test → IfSome rest (IsCondition Sides) →
+      IsCondition Sides (both test rest)
   unfolding call_type
   both_over test None h k = h
   both_over test (Some rest) h k = record {
     over = made-Call Form Function.And (test ∷ rest ∷ []) DataType.Boolean
-    (ap (λ (a : DataType). exactly (DataType.Boolean ∷ DataType.Boolean ∷ []) DataType.Boolean (a ∷ kind_of rest ∷ [])) h.boolean
-    ∙ ap (λ (b : DataType). exactly (DataType.Boolean ∷ DataType.Boolean ∷ []) DataType.Boolean (DataType.Boolean ∷ b ∷ [])) k.boolean)
-    (h.over, (k.over, tt));
+        (ap (λ (a : DataType). exactly (DataType.Boolean ∷ DataType.Boolean ∷ []) DataType.Boolean (a ∷ kind_of rest ∷ [])) h.boolean
+        ∙ ap (λ (b : DataType). exactly (DataType.Boolean ∷ DataType.Boolean ∷ []) DataType.Boolean (DataType.Boolean ∷ b ∷ [])) k.boolean)
+        (h.over, (k.over, tt));
     boolean = kind_of-Call Function.And (test ∷ rest ∷ []) DataType.Boolean;
   }
 
@@ -159,7 +169,8 @@ module _ (left right : List DataType) (width : ℕ) (wide : width ≡ length lef
   unfolding all_equal
   all_over [] all = tt
   all_over (key ∷ keys) all =
-      both_over (are_equal width key) (all_equal width keys) (equal_over key (All-head (IsKey left right) key keys all)) (all_over keys (All-tail (IsKey left right) key keys all))
+      both_over (are_equal width key) (all_equal width keys) (equal_over key (All-head (IsKey left right) key keys all))
+      (all_over keys (All-tail (IsKey left right) key keys all))
 
 -- ---- the items of a join by keys
 
@@ -172,12 +183,15 @@ maybe_more : {X : Type 0} (P : X → Type 0) (o : Option X) (xs : List X) → If
 maybe_more P (Some x) xs h all = All-cons P x xs h all
 maybe_more P None xs h all = all
 
-pub all_given : {X Y : Type 0} (P : Y → Type 0) (Q : X → Type 0) (f : X → Option Y) → ((x : X) → Q x → IfSome (f x) P) → (xs : List X) → All Q xs → All P (filter_map f xs)
+pub all_given : {X Y : Type 0} (P : Y → Type 0) (Q : X → Type 0) (f : X → Option Y) → ((x : X) → Q x → IfSome (f x) P) → (xs : List X) →
+    All Q xs → All P (filter_map f xs)
 all_given P Q f h [] all = All-nil P
-all_given P Q f h (x ∷ xs) all = maybe_more P (f x) (filter_map f xs) (h x (All-head Q x xs all)) (all_given P Q f h xs (All-tail Q x xs all))
+all_given P Q f h (x ∷ xs) all = maybe_more P (f x) (filter_map f xs) (h x (All-head Q x xs all))
+    (all_given P Q f h xs (All-tail Q x xs all))
 
 module _ (left right : List DataType) (width : ℕ) (wide : width ≡ length left) (items : List Item) where
-  merged_over : (key : KeyPair) → IsKey left right key → (o : Option Item) → IfSome (option_map (merged width key) o) (ItemOver (left ++ right))
+  merged_over : (key : KeyPair) → IsKey left right key → (o : Option Item) →
+      IfSome (option_map (merged width key) o) (ItemOver (left ++ right))
   merged_over key is_key None = tt
   merged_over key is_key (Some item) = coalesced_over left right width wide key is_key
 
@@ -206,10 +220,12 @@ module _ (exact : Bool) (fresh : ℕ → ℕ) (left right : FoundOf ℕ) (on_lef
   unfolding on_rule
   on_condition kind None = joined_sound left right on_left on_right (kind_without kind) None tt
   on_condition kind (Some condition) =
-      then_holds IsSoundFound (condition_of nat_eq exact (left.columns ++ right.columns) (left.relations ++ right.relations) (codes "join") condition) _ (λ test is.
+      then_holds IsSoundFound (condition_of nat_eq exact (left.columns ++ right.columns) (left.relations ++ right.relations)
+      (codes "join") condition) _ (λ test is.
       joined_sound left right on_left on_right kind (Some test)
       (subst (λ (ks : List DataType). IsCondition ks test) (map-append (λ (c : ColumnOf ℕ). c.kind) left.columns right.columns)
-      (conditions_are_well_formed exact (left.columns ++ right.columns) (left.relations ++ right.relations) (codes "join") condition test is)))
+      (conditions_are_well_formed exact (left.columns ++ right.columns) (left.relations ++ right.relations)
+      (codes "join") condition test is)))
 
   abbrev Wide : length left.columns ≡ length (kinds left.columns)
   Wide = sym (length-map left.columns (λ column. column.kind))
@@ -222,7 +238,8 @@ module _ (exact : Bool) (fresh : ℕ → ℕ) (left right : FoundOf ℕ) (on_lef
     pairs = joined kind left right (all_equal width keys)
 
     pairs_sound : IsSoundFound pairs
-    pairs_sound = joined_sound left right on_left on_right kind (all_equal width keys) (all_over (kinds left.columns) (kinds right.columns) width Wide keys are_keys)
+    pairs_sound = joined_sound left right on_left on_right kind (all_equal width keys)
+        (all_over (kinds left.columns) (kinds right.columns) width Wide keys are_keys)
 
     abbrev its_items : List Item
     its_items = items_where any_column 0 pairs.columns
@@ -242,12 +259,14 @@ module _ (exact : Bool) (fresh : ℕ → ℕ) (left right : FoundOf ℕ) (on_lef
   by_keys : (kind : JoinKind) (names : List (List ℕ)) → IfOk (using_rule nat_eq exact fresh kind left right names) IsSoundFound
   unfolding using_rule
   by_keys kind names = then_holds IsSoundFound (all_checked (map (key_pair exact left.columns right.columns) names)) _ (λ keys are.
-      keyed_sound kind keys (IfOk-at_ok (All Its) are (all_hold Its (key_pair exact left.columns right.columns) (key_found exact left.columns right.columns) names)))
+      keyed_sound kind keys (IfOk-at_ok (All Its) are
+      (all_hold Its (key_pair exact left.columns right.columns) (key_found exact left.columns right.columns) names)))
     where
       Its : KeyPair → Type 0
       Its = IsKey (kinds left.columns) (kinds right.columns)
 
-  pub join_sound : (number : ℤ) (condition : Option Expr) (names : List (List ℕ)) → IfOk (join_rule nat_eq exact fresh left right number condition names) IsSoundFound
+  pub join_sound : (number : ℤ) (condition : Option Expr) (names : List (List ℕ)) →
+      IfOk (join_rule nat_eq exact fresh left right number condition names) IsSoundFound
   unfolding join_rule
   join_sound number condition names =
       then_holds IsSoundFound (or_refused _ (kind_numbered number)) _ (λ kind is.
@@ -255,4 +274,7 @@ module _ (exact : Bool) (fresh : ℕ → ℕ) (left right : FoundOf ℕ) (on_lef
       either_way IsSoundFound (length names == 0) _ _ (on_condition kind condition) (by_keys kind names)))
 
 pub joins_sound : JoinsAre IsSoundFound
-joins_sound = record { joins = λ exact fresh number condition names left right on_left on_right. join_sound exact fresh left right on_left on_right number condition names }
+joins_sound = record {
+  joins = λ exact fresh number condition names left right on_left on_right.
+      join_sound exact fresh left right on_left on_right number condition names;
+}

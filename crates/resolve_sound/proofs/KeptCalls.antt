@@ -59,7 +59,8 @@ cast_grows cast h = record {
       IfOk-at_ok (GrowsTyping calls) is (h.grows allowed calls)));
 }
 
-arguments_grow : (allowed : Bool) (ss : List Standing) → AllByRecursion IsGrowing ss → (calls : List AggregateCall) → IfOk (arguments_typed allowed ss calls) (GrowsArguments calls)
+arguments_grow : (allowed : Bool) (ss : List Standing) → AllByRecursion IsGrowing ss → (calls : List AggregateCall) →
+    IfOk (arguments_typed allowed ss calls) (GrowsArguments calls)
 arguments_grow allowed [] all calls = grows_none calls
 arguments_grow allowed (s ∷ ss) all calls =
     then_holds (GrowsArguments calls) (s.typed allowed calls) _ (λ first is.
@@ -83,17 +84,21 @@ module _ (ss : List Standing) (all : AllByRecursion IsGrowing ss) (name : List �
       (record { function = function; argument = first_of found.exprs; distinct = distinct } ∷ [], refl)))
 
   call_grows : (b c : Bool) (width : ℕ) (distinct allowed : Bool) →
-      IfOk (if b then Ok (rows_counted width calls) else (if c then aggregate_typed width name function distinct ss calls else plain_typed name function ss allowed calls)) (GrowsTyping calls)
+      IfOk (if b then Ok (rows_counted width calls) else
+      (if c then aggregate_typed width name function distinct ss calls else plain_typed name function ss allowed calls)) (GrowsTyping calls)
   call_grows b c width distinct allowed =
       either_way (GrowsTyping calls) b _ _ (record { function = Function.Count; argument = None; distinct = false } ∷ [], refl)
       (either_way (GrowsTyping calls) c _ _ (aggregate_grows width distinct) (plain_grows allowed))
 
-function_grows : (width : ℕ) (f : UnresolvedFunction Standing) → AllByRecursion IsGrowing f.arguments → IsGrowing (record { star = false; typed = function_typed width f })
+function_grows : (width : ℕ) (f : UnresolvedFunction Standing) → AllByRecursion IsGrowing f.arguments →
+    IsGrowing (record { star = false; typed = function_typed width f })
 unfolding function_typed
 function_grows width f all = record {
   grows = λ allowed calls.
-      then_holds (GrowsTyping calls) (called (str_to_ascii_lowercase f.function_name) allowed f.is_distinct (has_star f.arguments) (length f.arguments)) _ (λ function is.
-      call_grows f.arguments all (str_to_ascii_lowercase f.function_name) function calls (is_count function && has_star f.arguments) (is_aggregate function) width f.is_distinct allowed);
+      then_holds (GrowsTyping calls) (called (str_to_ascii_lowercase f.function_name) allowed f.is_distinct (has_star f.arguments)
+      (length f.arguments)) _ (λ function is.
+      call_grows f.arguments all (str_to_ascii_lowercase f.function_name) function calls (is_count function && has_star f.arguments)
+      (is_aggregate function) width f.is_distinct allowed);
 }
 
 -- ---- all expressions
@@ -130,8 +135,10 @@ module _ {I : Type 0} (same : I → I → Bool) (exact : Bool) (scope : List (Co
   at_layer y = subst IsGrowing (sym (fold-roll-Expr Standing step (plain y))) (layer_grows y)
 
   growing : (expr : Expr) → IsGrowing (stands expr)
-  growing = ind-Expr (λ expr. IsGrowing (stands expr)) (λ x y is. subst (λ (z : Expr-F Expr). IsGrowing (stands (roll-Expr z))) is (at_layer y))
+  growing = ind-Expr (λ expr. IsGrowing (stands expr))
+      (λ x y is. subst (λ (z : Expr-F Expr). IsGrowing (stands (roll-Expr z))) is (at_layer y))
 
-  pub calls_grow : (expr : Expr) (allowed : Bool) (calls : List AggregateCall) → IfOk (typed_over same exact scope relations expr allowed calls) (λ typing. Grows calls typing.calls)
+  pub calls_grow : (expr : Expr) (allowed : Bool) (calls : List AggregateCall) →
+      IfOk (typed_over same exact scope relations expr allowed calls) (λ typing. Grows calls typing.calls)
   unfolding typed_over
   calls_grow expr allowed calls = (growing expr).grows allowed calls

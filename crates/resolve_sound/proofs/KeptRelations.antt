@@ -44,7 +44,8 @@ module _ {I : Type 0} (input : FoundOf I) (sound : IsSoundFound input) where
   sound_under columns same = record { node = sound.node; columns = sound.columns ∙ sym same }
 
   sliced : (skip : ℕ) (most : Option ℕ) → IsSoundFound (over input (V.Slice input.node skip most))
-  sliced skip most = sound_over (V.Slice input.node skip most) (made-Slice IsSound input.node skip most tt sound.node) (types-Slice input.node skip most)
+  sliced skip most = sound_over (V.Slice input.node skip most) (made-Slice IsSound input.node skip most tt sound.node)
+      (types-Slice input.node skip most)
 
   limited : (number : ℤ) → IfOk (limit_rule input number) IsSoundFound
   unfolding limit_rule
@@ -94,7 +95,8 @@ module _ {I : Type 0} (input : FoundOf I) (sound : IsSoundFound input) where
   unfolding renamed_rule
   some_new exact fresh entries =
       sound_under (numbered_from (rename_column exact fresh entries) 0 input.columns)
-      (kinds_numbered (rename_column exact fresh entries) (λ column. column.kind) (λ n column. renamed_kind (fresh n) column (new_name exact entries column.name)) 0 input.columns)
+      (kinds_numbered (rename_column exact fresh entries) (λ column. column.kind)
+      (λ n column. renamed_kind (fresh n) column (new_name exact entries column.name)) 0 input.columns)
 
 pub kept_are_sound : (I : Type 0) → KeptRelationsAre I IsSoundFound
 kept_are_sound I = record {
@@ -118,19 +120,22 @@ moves step fails is = let h : int_eq step (pos 0) ≡ true = (Decides-int_eq ste
 ranged : {I : Type 0} (fresh : ℕ → I) (start end step : ℤ) → IfOk (range_rule fresh start end step) IsSoundFound
 unfolding range_rule
 ranged fresh start end step = then_holds IsSoundFound (unless (int_eq step (pos 0)) _) _ (λ u is. record {
-  node = made-Range IsSound start end step (IfOk-at_ok (λ _. step ≢ pos 0) is (unless_false (step ≢ pos 0) (int_eq step (pos 0)) _ (moves step)));
+  node = made-Range IsSound start end step (IfOk-at_ok (λ _. step ≢ pos 0) is
+      (unless_false (step ≢ pos 0) (int_eq step (pos 0)) _ (moves step)));
   columns = types-Range start end step;
 })
 
-table_sound : {I : Type 0} (fresh : ℕ → I) (tables : List NamedTable) (identifier : List ℕ) → HaveFittingRows tables → IfOk (read_rule fresh tables identifier) IsSoundFound
+table_sound : {I : Type 0} (fresh : ℕ → I) (tables : List NamedTable) (identifier : List ℕ) → HaveFittingRows tables →
+    IfOk (read_rule fresh tables identifier) IsSoundFound
 unfolding read_rule
 table_sound fresh tables identifier fit =
     then_holds IsSoundFound (table_name identifier) _ (λ name is.
     then_holds IsSoundFound (or_refused _ (find (has_name name) tables)) _ (λ table there_is. record {
       node = made-Rows IsSound table.schema table.rows
-      (IfOk-at_ok HasFittingRows there_is (there HasFittingRows _ (find (has_name name) tables) (found_holds HasFittingRows (has_name name) tables fit)));
+          (IfOk-at_ok HasFittingRows there_is (there HasFittingRows _ (find (has_name name) tables)
+          (found_holds HasFittingRows (has_name name) tables fit)));
       columns = types-Rows table.schema table.rows
-      ∙ sym (kinds_numbered (table_column fresh table.name) (λ field. field.kind) (λ n field. refl) 0 table.schema.0);
+          ∙ sym (kinds_numbered (table_column fresh table.name) (λ field. field.kind) (λ n field. refl) 0 table.schema.0);
     }))
   where
     HasFittingRows : NamedTable → Type 0
@@ -144,7 +149,8 @@ leaves_are_sound I = record { ranges = ranged; tables = table_sound }
 module _ (exact : Bool) (input : FoundOf ℕ) (sound : IsSoundFound input) where
   filtered : (condition : Expr) → IfOk (filter_rule nat_eq exact input condition) IsSoundFound
   unfolding filter_rule
-  filtered condition = then_holds IsSoundFound (condition_of nat_eq exact input.columns input.relations (codes "filter") condition) _ (λ test is.
+  filtered condition = then_holds IsSoundFound (condition_of nat_eq exact input.columns input.relations (codes "filter") condition) _
+      (λ test is.
       sound_over input sound (V.Filter input.node test)
       (made-Filter IsSound input.node test
       (subst (λ (ks : List DataType). IsCondition ks test) (sym sound.columns)
@@ -156,7 +162,8 @@ module _ (exact : Bool) (input : FoundOf ℕ) (sound : IsSoundFound input) where
 
   key_over : (order : SortOrder Expr) → IfOk (sort_key_of nat_eq exact input.columns input.relations order) (KeyOver (kinds input.columns))
   unfolding sort_key_of
-  key_over order = then_holds (KeyOver (kinds input.columns)) (value_of nat_eq exact input.columns input.relations order.child) _ (λ expr is.
+  key_over order = then_holds (KeyOver (kinds input.columns)) (value_of nat_eq exact input.columns input.relations order.child) _
+      (λ expr is.
       values_are_well_formed exact input.columns input.relations order.child expr is)
 
   sorted : (orders : List (SortOrder Expr)) → IfOk (sort_rule nat_eq exact input orders) IsSoundFound

@@ -37,9 +37,11 @@ module _ {I : Type 0} (input : FoundOf I) (sound : IsSoundFound input) where
   -- expressions of items over the input's columns are over the types of its node
   pub exprs_over : (items : List Item) → All (ItemOver (kinds input.columns)) items → All (IsOver (types input.node)) (exprs_of items)
   exprs_over items over =
-      subst (λ (ks : List DataType). All (IsOver ks) (exprs_of items)) (sym sound.columns) (All-map (IsOver (kinds input.columns)) expr_of items over)
+      subst (λ (ks : List DataType). All (IsOver ks) (exprs_of items)) (sym sound.columns)
+      (All-map (IsOver (kinds input.columns)) expr_of items over)
 
-  pub projection_sound : (fresh : ℕ → I) (items : List Item) → All (ItemOver (kinds input.columns)) items → IsSoundFound (projection fresh input items)
+  pub projection_sound : (fresh : ℕ → I) (items : List Item) → All (ItemOver (kinds input.columns)) items →
+      IsSoundFound (projection fresh input items)
   projection_sound fresh items over = record {
     node = made-Project IsSound input.node (exprs_of items) (exprs_over items over) sound.node;
     columns = types-Project input.node (exprs_of items) ∙ sym (kinds_of_made fresh input.columns items);
@@ -50,24 +52,29 @@ module _ {I : Type 0} (input : FoundOf I) (sound : IsSoundFound input) where
   kept_sound : (keeps : ColumnOf I → Bool) → IsSoundFound (kept input keeps)
   kept_sound keeps = record {
     node = made-Project IsSound input.node (exprs_of (items_where keeps 0 input.columns))
-    (exprs_over (items_where keeps 0 input.columns) (passing_over keeps input.columns)) sound.node;
-    columns = types-Project input.node (exprs_of (items_where keeps 0 input.columns)) ∙ kinds_of_passing keeps input.columns 0 input.columns;
+        (exprs_over (items_where keeps 0 input.columns) (passing_over keeps input.columns)) sound.node;
+    columns = types-Project input.node (exprs_of (items_where keeps 0 input.columns))
+        ∙ kinds_of_passing keeps input.columns 0 input.columns;
   }
 
-  pub fewer : (same : I → I → Bool) (exact : Bool) (exprs : List Expr) (names : List (List ℕ)) → IfOk (drop_rule same exact input exprs names) IsSoundFound
+  pub fewer : (same : I → I → Bool) (exact : Bool) (exprs : List Expr) (names : List (List ℕ)) →
+      IfOk (drop_rule same exact input exprs names) IsSoundFound
   unfolding drop_rule
-  fewer same exact exprs names = then_holds IsSoundFound (all_checked (map (meant exact input.relations) exprs)) _ (λ all is. kept_sound (is_kept same exact all names))
+  fewer same exact exprs names = then_holds IsSoundFound (all_checked (map (meant exact input.relations) exprs)) _
+      (λ all is. kept_sound (is_kept same exact all names))
 
 -- ---- more columns
 
-module _ (exact : Bool) (columns : List (ColumnOf ℕ)) (P : Item → Type 0) (as_they_are : OfEach columns P column_item) (added : List Item) (hold : All P added) where
+module _ (exact : Bool) (columns : List (ColumnOf ℕ)) (P : Item → Type 0) (as_they_are : OfEach columns P column_item) (added : List Item)
+    (hold : All P added) where
   found_or : (o : Option Item) → IfSome o P → (item : Item) → P item → P (unwrap_or o item)
   found_or (Some found) h item k = h
   found_or None h item k = k
 
   replaced_holds : OfEach columns P (replaced nat_eq exact added)
   replaced_holds front c rest whole =
-      found_or (find (λ item. name_matches exact item.name c.name) added) (found_holds P (λ item. name_matches exact item.name c.name) added hold)
+      found_or (find (λ item. name_matches exact item.name c.name) added)
+      (found_holds P (λ item. name_matches exact item.name c.name) added hold)
       (column_item (length front) c) (as_they_are front c rest whole)
 
   pub with_added_hold : All P (with_added nat_eq exact columns added)
@@ -110,19 +117,22 @@ module _ (exact : Bool) (fresh : ℕ → ℕ) (input : FoundOf ℕ) (sound : IsS
         call_types = [] ++ h.more;
         calls_over = subst (λ (ks : List DataType). AllZip (IsCallOver ks) found.calls ([] ++ h.more)) (sym sound.columns) h.calls;
         items_over = All-map (IsOver (kinds_of (exprs_of keys) ++ ([] ++ h.more))) expr_of (numbered key_value keys ++ found.items)
-        (All-append (ItemOver (kinds_of (exprs_of keys) ++ ([] ++ h.more))) (numbered key_value keys) found.items (key_values_over ([] ++ h.more) keys) h.items);
+            (All-append (ItemOver (kinds_of (exprs_of keys) ++ ([] ++ h.more))) (numbered key_value keys) found.items
+            (key_values_over ([] ++ h.more) keys) h.items);
       }) sound.node;
       columns = types-Aggregate input.node (exprs_of keys) found.calls (exprs_of (numbered key_value keys ++ found.items))
-      ∙ sym (kinds_of_made fresh input.columns (numbered key_value keys ++ found.items));
+          ∙ sym (kinds_of_made fresh input.columns (numbered key_value keys ++ found.items));
     }
 
     aggregated_sound : (stars : Bool) (exprs : List Expr) → IfOk (aggregated nat_eq exact fresh input stars keys exprs) IsSoundFound
     unfolding aggregated
-    aggregated_sound stars exprs = then_holds IsSoundFound (grouped nat_eq exact input.columns input.relations stars (exprs_of keys) exprs []) _ (λ found is.
+    aggregated_sound stars exprs = then_holds IsSoundFound
+        (grouped nat_eq exact input.columns input.relations stars (exprs_of keys) exprs []) _ (λ found is.
         grouped_sound found (IfOk-at_ok (AreGroupedOver exact input.columns input.relations (exprs_of keys) []) is
         (all_grouped exact input.columns input.relations (exprs_of keys) stars exprs [] [] tt)))
 
-  groups_sound : (group_type : ℤ) (groupings exprs : List Expr) → IfOk (aggregate_rule nat_eq exact fresh input group_type groupings exprs) IsSoundFound
+  groups_sound : (group_type : ℤ) (groupings exprs : List Expr) →
+      IfOk (aggregate_rule nat_eq exact fresh input group_type groupings exprs) IsSoundFound
   unfolding aggregate_rule
   groups_sound group_type groupings exprs =
       then_holds IsSoundFound (grouping_only group_type) _ (λ u one.
@@ -131,7 +141,8 @@ module _ (exact : Bool) (fresh : ℕ → ℕ) (input : FoundOf ℕ) (sound : IsS
 
   project_sound : (exprs : List Expr) → IfOk (project_rule nat_eq exact fresh input exprs) IsSoundFound
   unfolding project_rule
-  project_sound exprs = either_way IsSoundFound (list_any has_aggregate exprs) _ _ (aggregated_sound [] (All-nil Over) true exprs) (plain_sound exprs)
+  project_sound exprs = either_way IsSoundFound (list_any has_aggregate exprs) _ _ (aggregated_sound [] (All-nil Over) true exprs)
+      (plain_sound exprs)
 
 pub projections_sound : ProjectionsAre IsSoundFound
 projections_sound = record {

@@ -43,12 +43,14 @@ literal_may value = by (is_present value)
 
 -- columns as they are
 pub columns_give : {I : Type 0} (columns : List (ColumnOf I)) → OfEach columns (Gives columns) column_item
-columns_give columns front c rest whole = subst (λ (cs : List (ColumnOf _)). Gives cs (column_item (length front) c)) whole (column_gives front c rest)
+columns_give columns front c rest whole = subst (λ (cs : List (ColumnOf _)). Gives cs (column_item (length front) c)) whole
+    (column_gives front c rest)
 
 -- ---- each form says whether it may be null
 
 module _ {I : Type 0} (columns : List (ColumnOf I)) (calls : List AggregateCall) where
-  pub null_Column : (place : ℕ) (kind : DataType) → is_nullable columns calls (T.Column place kind) ≡ column_is_nullable columns calls place (slice_get columns place)
+  pub null_Column : (place : ℕ) (kind : DataType) →
+      is_nullable columns calls (T.Column place kind) ≡ column_is_nullable columns calls place (slice_get columns place)
   unfolding is_nullable
   null_Column place kind = ap (form_is_nullable columns calls) (T.outs-Column place kind)
 
@@ -56,7 +58,8 @@ module _ {I : Type 0} (columns : List (ColumnOf I)) (calls : List AggregateCall)
   unfolding is_nullable
   null_Literal value kind = ap (form_is_nullable columns calls) (T.outs-Literal value kind)
 
-  pub null_Call : (function : Function) (arguments : List TypedExpr) (kind : DataType) → is_nullable columns calls (T.Call function arguments kind) ≡ true
+  pub null_Call : (function : Function) (arguments : List TypedExpr) (kind : DataType) →
+      is_nullable columns calls (T.Call function arguments kind) ≡ true
   unfolding is_nullable
   null_Call function arguments kind = ap (form_is_nullable columns calls) (T.outs-Call function arguments kind)
 
@@ -67,20 +70,24 @@ module _ {I : Type 0} (columns : List (ColumnOf I)) (calls : List AggregateCall)
   -- ---- over the columns alone
 
   abbrev Tells : TypedExpr → Type 0
-  Tells expr = IsOver (kinds columns) expr → (row : Row) → FitsNulls (flags columns) row → May (is_nullable columns calls expr) (val expr row)
+  Tells expr = IsOver (kinds columns) expr → (row : Row) → FitsNulls (flags columns) row →
+      May (is_nullable columns calls expr) (val expr row)
 
   nowhere : (place : ℕ) (kind : DataType) → slice_get columns place ≡ None → slice_get (kinds columns) place ≡ Some kind → ⊥
   nowhere place kind none is =
-      let e : ◌≡◌ {A = Option DataType} None (Some kind) = ap (option_map (λ c. c.kind)) (sym none) ∙ sym (slice_get-map (λ c. c.kind) columns place) ∙ is in
+      let e : ◌≡◌ {A = Option DataType} None (Some kind) = ap (option_map (λ c. c.kind)) (sym none)
+      ∙ sym (slice_get-map (λ c. c.kind) columns place) ∙ is in
       cc
 
   column_tells : (place : ℕ) (kind : DataType) → Tells (T.Column place kind)
   column_tells place kind over row fits =
       subst (λ (b : Bool). May b (val (T.Column place kind) row)) (sym (null_Column place kind)) (by (slice_get columns place) refl)
     where
-      by : (o : Option (ColumnOf I)) → slice_get columns place ≡ o → May (column_is_nullable columns calls place o) (val (T.Column place kind) row)
+      by : (o : Option (ColumnOf I)) → slice_get columns place ≡ o →
+          May (column_is_nullable columns calls place o) (val (T.Column place kind) row)
       by (Some column) is = column_may columns row place kind column is fits
-      by None is = absurd (nowhere place kind is (every_here (IsFormOver (kinds columns)) (T.Column place kind) (O.Column place kind) (T.outs-Column place kind) over))
+      by None is = absurd (nowhere place kind is (every_here (IsFormOver (kinds columns)) (T.Column place kind) (O.Column place kind)
+          (T.outs-Column place kind) over))
 
   telling : Forms Tells
   telling = record {
@@ -98,10 +105,12 @@ module _ {I : Type 0} (columns : List (ColumnOf I)) (calls : List AggregateCall)
 
 -- ---- items
 
-pub typed_give : (exact : Bool) (columns : List (ColumnOf ℕ)) (relations : List (Tagged ℕ)) → TypedHold exact columns relations (Gives columns)
+pub typed_give : (exact : Bool) (columns : List (ColumnOf ℕ)) (relations : List (Tagged ℕ)) →
+    TypedHold exact columns relations (Gives columns)
 unfolding value_of
 typed_give exact columns relations name bare expr =
     then_holds (λ itemized. Gives columns itemized.item) (typed_over nat_eq exact columns relations expr false []) _ (λ typing is.
     then_holds (λ itemized. Gives columns itemized.item) (or_refused untyped typing.expr) _ (λ typed there_is.
     expr_tells columns typing.calls typed
-    (values_are_well_formed exact columns relations expr typed (ap (λ (o : Checked _). o >>= λ t. or_refused untyped t.expr) is ∙ there_is))))
+    (values_are_well_formed exact columns relations expr typed
+    (ap (λ (o : Checked _). o >>= λ t. or_refused untyped t.expr) is ∙ there_is))))

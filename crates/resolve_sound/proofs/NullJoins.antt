@@ -51,19 +51,22 @@ always_may true p = refl
 always_may false p = refl
 
 module _ {I : Type 0} where
-  real_side : (nulls : Bool) (columns : List (ColumnOf I)) (values : List Value) → HaveNullsWithin (flags columns) values → HaveNullsWithin (flags (side_columns nulls columns)) values
+  real_side : (nulls : Bool) (columns : List (ColumnOf I)) (values : List Value) → HaveNullsWithin (flags columns) values →
+      HaveNullsWithin (flags (side_columns nulls columns)) values
   real_side nulls [] [] h = tt
   real_side nulls [] (v ∷ vs) h = absurd h
   real_side nulls (c ∷ cs) [] h = absurd h
   real_side nulls (c ∷ cs) (v ∷ vs) h = (more_may c.nullable nulls (is_present v) h.0, real_side nulls cs vs h.1)
 
-  null_side : (columns : List (ColumnOf I)) (n : ℕ) → n ≡ length columns → HaveNullsWithin (flags (side_columns true columns)) (replicate n Null)
+  null_side : (columns : List (ColumnOf I)) (n : ℕ) → n ≡ length columns →
+      HaveNullsWithin (flags (side_columns true columns)) (replicate n Null)
   null_side [] zero is = tt
   null_side [] (suc n) is = absurd (let h : ⊥ = cc in h)
   null_side (c ∷ cs) zero is = absurd (let h : ⊥ = cc in h)
   null_side (c ∷ cs) (suc n) is = (always_may c.nullable false, null_side cs n (let h : n ≡ length cs = cc in h))
 
-both_within : (fs gs : List Bool) (vs ws : List Value) → HaveNullsWithin fs vs → HaveNullsWithin gs ws → HaveNullsWithin (fs ++ gs) (vs ++ ws)
+both_within : (fs gs : List Bool) (vs ws : List Value) → HaveNullsWithin fs vs → HaveNullsWithin gs ws →
+    HaveNullsWithin (fs ++ gs) (vs ++ ws)
 both_within [] gs [] ws h k = k
 both_within [] gs (v ∷ vs) ws h k = absurd h
 both_within (f ∷ fs) gs [] ws h k = absurd h
@@ -71,7 +74,8 @@ both_within (f ∷ fs) gs (v ∷ vs) ws h k = (h.0, both_within fs gs vs ws h.1 
 
 -- ---- the rows of a join
 
-module _ {I : Type 0} (left right : FoundOf I) (on_left : IsNullSafe left) (on_right : IsNullSafe right) (condition : Option TypedExpr) where
+module _ {I : Type 0} (left right : FoundOf I) (on_left : IsNullSafe left) (on_right : IsNullSafe right)
+    (condition : Option TypedExpr) where
   abbrev Left : Row → Type 0
   Left = FitsNulls (flags left.columns)
 
@@ -84,22 +88,27 @@ module _ {I : Type 0} (left right : FoundOf I) (on_left : IsNullSafe left) (on_r
   abbrev joining : Joining
   joining = joining_of condition left.node right.node
 
-  sides : (a b : Bool) (vs ws : List Value) → HaveNullsWithin (flags (side_columns a left.columns)) vs → HaveNullsWithin (flags (side_columns b right.columns)) ws →
+  sides : (a b : Bool) (vs ws : List Value) → HaveNullsWithin (flags (side_columns a left.columns)) vs →
+      HaveNullsWithin (flags (side_columns b right.columns)) ws →
       HaveNullsWithin (flags (side_columns a left.columns ++ side_columns b right.columns)) (vs ++ ws)
   sides a b vs ws h k =
-      subst (λ (fs : List Bool). HaveNullsWithin fs (vs ++ ws)) (sym (map-append (λ (c : ColumnOf I). c.nullable) (side_columns a left.columns) (side_columns b right.columns)))
+      subst (λ (fs : List Bool). HaveNullsWithin fs (vs ++ ws))
+      (sym (map-append (λ (c : ColumnOf I). c.nullable) (side_columns a left.columns) (side_columns b right.columns)))
       (both_within (flags (side_columns a left.columns)) (flags (side_columns b right.columns)) vs ws h k)
 
   no_left : HaveNullsWithin (flags (side_columns true left.columns)) joining.left_nulls.0
-  no_left = null_side left.columns (length (types left.node)) (ap (λ (ks : List DataType). length ks) on_left.sound.columns ∙ length-map left.columns (λ c. c.kind))
+  no_left = null_side left.columns (length (types left.node))
+      (ap (λ (ks : List DataType). length ks) on_left.sound.columns ∙ length-map left.columns (λ c. c.kind))
 
   no_right : HaveNullsWithin (flags (side_columns true right.columns)) joining.right_nulls.0
-  no_right = null_side right.columns (length (types right.node)) (ap (λ (ks : List DataType). length ks) on_right.sound.columns ∙ length-map right.columns (λ c. c.kind))
+  no_right = null_side right.columns (length (types right.node))
+      (ap (λ (ks : List DataType). length ks) on_right.sound.columns ∙ length-map right.columns (λ c. c.kind))
 
   module _ (a b : List Row) (f : AllByRecursion Left a) (g : AllByRecursion Right b) where
     pairs_fit : (nl nr : Bool) → AllByRecursion (Both nl nr) (pairs joining a b)
     pairs_fit nl nr = all_flat Left (Both nl nr) (λ l. map (beside l) (filter (joining.matching l) b))
-        (λ l p. all_mapped Right (Both nl nr) (beside l) (λ r q. sides nl nr l.0 r.0 (real_side nl left.columns l.0 p) (real_side nr right.columns r.0 q))
+        (λ l p. all_mapped Right (Both nl nr) (beside l)
+        (λ r q. sides nl nr l.0 r.0 (real_side nl left.columns l.0 p) (real_side nr right.columns r.0 q))
         (filter (joining.matching l) b) (AllByRecursion-filter Right (joining.matching l) b g)) a f
 
     left_alone_fit : (nl : Bool) → AllByRecursion (Both nl true) (left_alone joining a b)
@@ -113,26 +122,32 @@ module _ {I : Type 0} (left right : FoundOf I) (on_left : IsNullSafe left) (on_r
         (filter (λ r. not (has_left joining a r)) b) (AllByRecursion-filter Right (λ r. not (has_left joining a r)) b g)
 
     left_fit : (test : Row → Bool) → AllByRecursion (FitsNulls (flags (side_columns false left.columns ++ []))) (filter test a)
-    left_fit test = subst (λ (cs : List (ColumnOf I)). AllByRecursion (FitsNulls (flags cs)) (filter test a)) (sym (append-nil (side_columns false left.columns)))
+    left_fit test = subst (λ (cs : List (ColumnOf I)). AllByRecursion (FitsNulls (flags cs)) (filter test a))
+        (sym (append-nil (side_columns false left.columns)))
         (kept (filter test a) (AllByRecursion-filter Left test a f))
       where
         kept : (rs : List Row) → AllByRecursion Left rs → AllByRecursion (FitsNulls (flags (side_columns false left.columns))) rs
         kept [] h = tt
         kept (r ∷ rs) h = (real_side false left.columns r.0 h.0, kept rs h.1)
 
-    rows_fit : (kind : JoinKind) → AllByRecursion (FitsNulls (flags (joined_columns kind left.columns right.columns))) (rows.joined kind joining a b)
+    rows_fit : (kind : JoinKind) → AllByRecursion (FitsNulls (flags (joined_columns kind left.columns right.columns)))
+        (rows.joined kind joining a b)
     unfolding joined_columns
     rows_fit JoinKind.Inner = pairs_fit false false
     rows_fit JoinKind.Cross = pairs_fit false false
-    rows_fit JoinKind.Left = all_joined (Both false true) (pairs joining a b) (left_alone joining a b) (pairs_fit false true) (left_alone_fit false)
-    rows_fit JoinKind.Right = all_joined (Both true false) (pairs joining a b) (right_alone joining a b) (pairs_fit true false) (right_alone_fit false)
+    rows_fit JoinKind.Left = all_joined (Both false true) (pairs joining a b) (left_alone joining a b) (pairs_fit false true)
+        (left_alone_fit false)
+    rows_fit JoinKind.Right = all_joined (Both true false) (pairs joining a b) (right_alone joining a b) (pairs_fit true false)
+        (right_alone_fit false)
     rows_fit JoinKind.Full = all_joined (Both true true) (pairs joining a b ++ left_alone joining a b) (right_alone joining a b)
-        (all_joined (Both true true) (pairs joining a b) (left_alone joining a b) (pairs_fit true true) (left_alone_fit true)) (right_alone_fit true)
+        (all_joined (Both true true) (pairs joining a b) (left_alone joining a b) (pairs_fit true true) (left_alone_fit true))
+        (right_alone_fit true)
     rows_fit JoinKind.Semi = left_fit (has_right joining b)
     rows_fit JoinKind.Anti = left_fit (λ l. not (has_right joining b l))
 
   joined_tells : (kind : JoinKind) → TellsNulls (joined kind left right condition)
-  joined_tells kind = each_pair Left Right (FitsNulls (flags (joined_columns kind left.columns right.columns))) left.node right.node (told left on_left) (told right on_right) kind condition
+  joined_tells kind = each_pair Left Right (FitsNulls (flags (joined_columns kind left.columns right.columns))) left.node right.node
+      (told left on_left) (told right on_right) kind condition
       (λ a b f g. rows_fit a b f g kind)
 
 -- ---- the items of a join by keys
@@ -165,7 +180,8 @@ module _ (exact : Bool) (fresh : ℕ → ℕ) (left right : FoundOf ℕ) (on_lef
   unfolding on_rule
   on_condition kind None = joined_tells left right on_left on_right None (kind_without kind)
   on_condition kind (Some condition) =
-      then_holds TellsNulls (condition_of nat_eq exact (left.columns ++ right.columns) (left.relations ++ right.relations) (codes "join") condition) _ (λ test is.
+      then_holds TellsNulls (condition_of nat_eq exact (left.columns ++ right.columns) (left.relations ++ right.relations)
+      (codes "join") condition) _ (λ test is.
       joined_tells left right on_left on_right (Some test) kind)
 
   module _ (kind : JoinKind) (keys : List KeyPair) where
@@ -180,14 +196,18 @@ module _ (exact : Bool) (fresh : ℕ → ℕ) (left right : FoundOf ℕ) (on_lef
 
     keyed_tells : IfOk (keyed nat_eq exact fresh kind width both keys) TellsNulls
     keyed_tells = then_holds TellsNulls (column_limit (length (using_items kind width keys its_items))) _ (λ u is.
-        projection_tells both (joined_tells left right on_left on_right (all_equal width keys) kind) fresh (using_items kind width keys its_items)
-        (using_give both.columns width its_items (all_passing (Gives both.columns) any_column both.columns (columns_give both.columns)) kind keys))
+        projection_tells both (joined_tells left right on_left on_right (all_equal width keys) kind) fresh
+        (using_items kind width keys its_items)
+        (using_give both.columns width its_items (all_passing (Gives both.columns) any_column both.columns
+        (columns_give both.columns)) kind keys))
 
   by_keys : (kind : JoinKind) (names : List (List ℕ)) → IfOk (using_rule nat_eq exact fresh kind left right names) TellsNulls
   unfolding using_rule
-  by_keys kind names = then_holds TellsNulls (all_checked (map (key_pair exact left.columns right.columns) names)) _ (λ keys are. keyed_tells kind keys)
+  by_keys kind names = then_holds TellsNulls (all_checked (map (key_pair exact left.columns right.columns) names)) _
+      (λ keys are. keyed_tells kind keys)
 
-  join_tells : (number : ℤ) (condition : Option Expr) (names : List (List ℕ)) → IfOk (join_rule nat_eq exact fresh left right number condition names) TellsNulls
+  join_tells : (number : ℤ) (condition : Option Expr) (names : List (List ℕ)) →
+      IfOk (join_rule nat_eq exact fresh left right number condition names) TellsNulls
   unfolding join_rule
   join_tells number condition names =
       then_holds TellsNulls (or_refused _ (kind_numbered number)) _ (λ kind is.
@@ -198,5 +218,6 @@ pub joins_are_safe : JoinsAre IsNullSafe
 joins_are_safe = record {
   joins = λ exact fresh number condition names left right on_left on_right.
       safe_answer (join_rule nat_eq exact fresh left right number condition names)
-      (joins_sound.joins exact fresh number condition names left right on_left.sound on_right.sound) (join_tells exact fresh left right on_left on_right number condition names);
+      (joins_sound.joins exact fresh number condition names left right on_left.sound on_right.sound)
+      (join_tells exact fresh left right on_left on_right number condition names);
 }

@@ -46,7 +46,11 @@ told found safe rows allowed = recursion_from_All (FitsNulls (flags found.column
 
 -- an answer that is sound and tells its nulls
 pub safe_answer : {I : Type 0} (answer : Checked (FoundOf I)) → IfOk answer IsSoundFound → IfOk answer TellsNulls → IfOk answer IsNullSafe
-safe_answer (Ok found) sound tells = record { sound = sound; nulls = λ rows allowed. All-from_recursion (FitsNulls (flags found.columns)) rows (tells rows allowed) }
+safe_answer (Ok found) sound tells = record {
+  sound = sound;
+  nulls =
+      λ rows allowed. All-from_recursion (FitsNulls (flags found.columns)) rows (tells rows allowed);
+}
 safe_answer (Err stop) sound tells = tt
 
 module _ {I : Type 0} (input : FoundOf I) (tells : TellsNulls input) where
@@ -63,7 +67,8 @@ module _ {I : Type 0} (input : FoundOf I) (tells : TellsNulls input) where
 
   deduplicated : (exact all : Bool) (names : List (List ℕ)) → IfOk (deduplicate_rule exact input all names) TellsNulls
   unfolding deduplicate_rule
-  deduplicated exact all names = then_holds TellsNulls (key_places exact input.columns all names) _ (λ places is. each_distinct Fit input.node tells places)
+  deduplicated exact all names = then_holds TellsNulls (key_places exact input.columns all names) _
+      (λ places is. each_distinct Fit input.node tells places)
 
   -- other columns that may be null where the input's may
   under : (columns : List (ColumnOf I)) → flags columns ≡ flags input.columns → TellsNulls (remade input input.node columns)
@@ -75,7 +80,8 @@ module _ {I : Type 0} (input : FoundOf I) (tells : TellsNulls input) where
   all_new : (fresh : ℕ → I) (names : List (List ℕ)) → IfOk (to_df_rule fresh input names) TellsNulls
   unfolding to_df_rule
   all_new fresh names = then_holds TellsNulls (unless (not (nat_eq (length input.columns) (length names))) _) _ (λ u is.
-      under (numbered_from (new_column fresh names) 0 input.columns) (flags_numbered (new_column fresh names) (λ column. column.nullable) (λ n column. refl) 0 input.columns))
+      under (numbered_from (new_column fresh names) 0 input.columns)
+      (flags_numbered (new_column fresh names) (λ column. column.nullable) (λ n column. refl) 0 input.columns))
 
   renamed_flag : (id : I) (column : ColumnOf I) (name : Option (List ℕ)) → (renamed_to id column name).nullable ≡ column.nullable
   renamed_flag id column (Some name) = refl
@@ -85,14 +91,16 @@ module _ {I : Type 0} (input : FoundOf I) (tells : TellsNulls input) where
   unfolding renamed_rule
   some_new exact fresh entries =
       under (numbered_from (rename_column exact fresh entries) 0 input.columns)
-      (flags_numbered (rename_column exact fresh entries) (λ column. column.nullable) (λ n column. renamed_flag (fresh n) column (new_name exact entries column.name)) 0 input.columns)
+      (flags_numbered (rename_column exact fresh entries) (λ column. column.nullable)
+      (λ n column. renamed_flag (fresh n) column (new_name exact entries column.name)) 0 input.columns)
 
   -- ---- items over the input
 
   imaged : (columns : List (ColumnOf I)) (items : List Item) → flags columns ≡ item_flags items → All (Gives input.columns) items →
       Each (V.Project input.node (exprs_of items)) (FitsNulls (flags columns))
   imaged columns items same give = each_image Fit (FitsNulls (flags columns)) input.node tells (exprs_of items) (λ row fits.
-      subst (λ (fs : List Bool). FitsNulls fs (image (exprs_of items) row)) (sym same) (image_may (Gives input.columns) row (λ item gives. gives row fits) items give))
+      subst (λ (fs : List Bool). FitsNulls fs (image (exprs_of items) row)) (sym same)
+      (image_may (Gives input.columns) row (λ item gives. gives row fits) items give))
 
   pub projection_tells : (fresh : ℕ → I) (items : List Item) → All (Gives input.columns) items → TellsNulls (projection fresh input items)
   projection_tells fresh items give = imaged (projection fresh input items).columns items (flags_of_made fresh input.columns items) give
@@ -102,37 +110,48 @@ module _ {I : Type 0} (input : FoundOf I) (tells : TellsNulls input) where
   one_flag n c cs items rest true = ap (λ (fs : List Bool). c.nullable ∷ fs) rest
   one_flag n c cs items rest false = rest
 
-  flags_of_passing : (passes : ColumnOf I → Bool) (n : ℕ) (columns : List (ColumnOf I)) → flags (filter passes columns) ≡ item_flags (items_where passes n columns)
+  flags_of_passing : (passes : ColumnOf I → Bool) (n : ℕ) (columns : List (ColumnOf I)) →
+      flags (filter passes columns) ≡ item_flags (items_where passes n columns)
   flags_of_passing passes n [] = refl
-  flags_of_passing passes n (c ∷ cs) = one_flag n c (filter passes cs) (items_where passes (suc n) cs) (flags_of_passing passes (suc n) cs) (passes c)
+  flags_of_passing passes n (c ∷ cs) = one_flag n c (filter passes cs) (items_where passes (suc n) cs) (flags_of_passing passes (suc n) cs)
+      (passes c)
 
   kept_tells : (keeps : ColumnOf I → Bool) → TellsNulls (kept input keeps)
   kept_tells keeps = imaged (filter keeps input.columns) (items_where keeps 0 input.columns) (flags_of_passing keeps 0 input.columns)
       (all_passing (Gives input.columns) keeps input.columns (columns_give input.columns))
 
-  fewer : (same : I → I → Bool) (exact : Bool) (exprs : List Expr) (names : List (List ℕ)) → IfOk (drop_rule same exact input exprs names) TellsNulls
+  fewer : (same : I → I → Bool) (exact : Bool) (exprs : List Expr) (names : List (List ℕ)) →
+      IfOk (drop_rule same exact input exprs names) TellsNulls
   unfolding drop_rule
-  fewer same exact exprs names = then_holds TellsNulls (all_checked (map (meant exact input.relations) exprs)) _ (λ all is. kept_tells (is_kept same exact all names))
+  fewer same exact exprs names = then_holds TellsNulls (all_checked (map (meant exact input.relations) exprs)) _
+      (λ all is. kept_tells (is_kept same exact all names))
 
 pub kept_are_safe : (I : Type 0) → KeptRelationsAre I IsNullSafe
 kept_are_safe I = record {
-  limits = λ number input safe. safe_answer (limit_rule input number) ((kept_are_sound I).limits number input safe.sound) (limited input (told input safe) number);
-  offsets = λ number input safe. safe_answer (offset_rule input number) ((kept_are_sound I).offsets number input safe.sound) (skipped input (told input safe) number);
-  aliases = λ alias input safe. safe_answer (Ok (alias_rule input alias)) ((kept_are_sound I).aliases alias input safe.sound) (aliased input (told input safe) alias);
-  distinct_rows = λ exact all names input safe. safe_answer (deduplicate_rule exact input all names) ((kept_are_sound I).distinct_rows exact all names input safe.sound)
+  limits = λ number input safe. safe_answer (limit_rule input number) ((kept_are_sound I).limits number input safe.sound)
+      (limited input (told input safe) number);
+  offsets = λ number input safe. safe_answer (offset_rule input number) ((kept_are_sound I).offsets number input safe.sound)
+      (skipped input (told input safe) number);
+  aliases = λ alias input safe. safe_answer (Ok (alias_rule input alias)) ((kept_are_sound I).aliases alias input safe.sound)
+      (aliased input (told input safe) alias);
+  distinct_rows = λ exact all names input safe. safe_answer (deduplicate_rule exact input all names)
+      ((kept_are_sound I).distinct_rows exact all names input safe.sound)
       (deduplicated input (told input safe) exact all names);
 }
 
 pub renamed_are_safe : (I : Type 0) → RenamedRelationsAre I IsNullSafe
 renamed_are_safe I = record {
-  all_renamed = λ fresh names input safe. safe_answer (to_df_rule fresh input names) ((renamed_are_sound I).all_renamed fresh names input safe.sound) (all_new input (told input safe) fresh names);
-  some_renamed = λ exact fresh entries input safe. safe_answer (Ok (renamed_rule exact fresh input entries)) ((renamed_are_sound I).some_renamed exact fresh entries input safe.sound)
+  all_renamed = λ fresh names input safe. safe_answer (to_df_rule fresh input names)
+      ((renamed_are_sound I).all_renamed fresh names input safe.sound) (all_new input (told input safe) fresh names);
+  some_renamed = λ exact fresh entries input safe. safe_answer (Ok (renamed_rule exact fresh input entries))
+      ((renamed_are_sound I).some_renamed exact fresh entries input safe.sound)
       (some_new input (told input safe) exact fresh entries);
 }
 
 pub fewer_are_safe : (I : Type 0) → FewerColumnsAre I IsNullSafe
 fewer_are_safe I = record {
-  fewer_columns = λ same exact exprs names input safe. safe_answer (drop_rule same exact input exprs names) ((fewer_sound I).fewer_columns same exact exprs names input safe.sound)
+  fewer_columns = λ same exact exprs names input safe. safe_answer (drop_rule same exact input exprs names)
+      ((fewer_sound I).fewer_columns same exact exprs names input safe.sound)
       (fewer input (told input safe) same exact exprs names);
 }
 
@@ -140,12 +159,14 @@ fewer_are_safe I = record {
 
 ranged : {I : Type 0} (fresh : ℕ → I) (start end step : ℤ) → IfOk (range_rule fresh start end step) TellsNulls
 unfolding range_rule
-ranged fresh start end step = then_holds TellsNulls (unless (int_eq step (pos 0)) _) _ (λ u is. each_number (FitsNulls (false ∷ [])) start end step (λ number. (refl, tt)))
+ranged fresh start end step = then_holds TellsNulls (unless (int_eq step (pos 0)) _) _
+    (λ u is. each_number (FitsNulls (false ∷ [])) start end step (λ number. (refl, tt)))
 
 SafeRows : NamedTable → Type 0
 SafeRows table = All (FitsNulls (schema_flags table.schema)) table.rows
 
-table_tells : {I : Type 0} (fresh : ℕ → I) (tables : List NamedTable) (identifier : List ℕ) → All SafeRows tables → IfOk (read_rule fresh tables identifier) TellsNulls
+table_tells : {I : Type 0} (fresh : ℕ → I) (tables : List NamedTable) (identifier : List ℕ) → All SafeRows tables →
+    IfOk (read_rule fresh tables identifier) TellsNulls
 unfolding read_rule SafeRows
 table_tells fresh tables identifier safe =
     then_holds TellsNulls (table_name identifier) _ (λ name is.
@@ -159,8 +180,10 @@ table_tells fresh tables identifier safe =
 pub leaves_are_safe : (I : Type 0) → LeavesAre I HaveSafeRows IsNullSafe
 unfolding SafeRows
 leaves_are_safe I = record {
-  ranges = λ fresh start end step. safe_answer (range_rule fresh start end step) ((leaves_are_sound I).ranges fresh start end step) (ranged fresh start end step);
-  tables = λ fresh tables identifier safe. safe_answer (read_rule fresh tables identifier) ((leaves_are_sound I).tables fresh tables identifier safe.fitting) (table_tells fresh tables identifier safe.nulls);
+  ranges = λ fresh start end step. safe_answer (range_rule fresh start end step) ((leaves_are_sound I).ranges fresh start end step)
+      (ranged fresh start end step);
+  tables = λ fresh tables identifier safe. safe_answer (read_rule fresh tables identifier)
+      ((leaves_are_sound I).tables fresh tables identifier safe.fitting) (table_tells fresh tables identifier safe.nulls);
 }
 
 -- ---- over expressions
@@ -168,7 +191,8 @@ leaves_are_safe I = record {
 module _ (exact : Bool) (input : FoundOf ℕ) (tells : TellsNulls input) where
   filtered : (condition : Expr) → IfOk (filter_rule nat_eq exact input condition) TellsNulls
   unfolding filter_rule
-  filtered condition = then_holds TellsNulls (condition_of nat_eq exact input.columns input.relations (codes "filter") condition) _ (λ test is.
+  filtered condition = then_holds TellsNulls (condition_of nat_eq exact input.columns input.relations (codes "filter") condition) _
+      (λ test is.
       each_selected (FitsNulls (flags input.columns)) input.node tells test)
 
   sorted : (orders : List (SortOrder Expr)) → IfOk (sort_rule nat_eq exact input orders) TellsNulls
@@ -180,7 +204,8 @@ module _ (exact : Bool) (input : FoundOf ℕ) (tells : TellsNulls input) where
   unfolding plain_projection
   plain_tells fresh exprs = then_holds TellsNulls (projected nat_eq exact input.columns input.relations exprs) _ (λ items is.
       projection_tells input tells fresh items (IfOk-at_ok (All (Gives input.columns)) is
-      (projected_hold exact input.columns input.relations (Gives input.columns) (typed_give exact input.columns input.relations) (columns_give input.columns) exprs)))
+      (projected_hold exact input.columns input.relations (Gives input.columns) (typed_give exact input.columns input.relations)
+      (columns_give input.columns) exprs)))
 
   more_tells : (fresh : ℕ → ℕ) (aliases : List (Alias Expr)) → IfOk (with_columns_rule nat_eq exact fresh input aliases) TellsNulls
   unfolding with_columns_rule
@@ -191,18 +216,23 @@ module _ (exact : Bool) (input : FoundOf ℕ) (tells : TellsNulls input) where
       projection_tells input tells fresh (with_added nat_eq exact input.columns added)
       (with_added_hold exact input.columns (Gives input.columns) (columns_give input.columns) added
       (IfOk-at_ok (All (Gives input.columns)) is
-      (all_added_hold exact input.columns input.relations (Gives input.columns) (typed_give exact input.columns input.relations) aliases))))))
+      (all_added_hold exact input.columns input.relations (Gives input.columns)
+      (typed_give exact input.columns input.relations) aliases))))))
 
 pub tested_are_safe : TestedRelationsAre IsNullSafe
 tested_are_safe = record {
-  filters = λ exact condition input safe. safe_answer (filter_rule nat_eq exact input condition) (tested_are_sound.filters exact condition input safe.sound) (filtered exact input (told input safe) condition);
-  sorts = λ exact orders input safe. safe_answer (sort_rule nat_eq exact input orders) (tested_are_sound.sorts exact orders input safe.sound) (sorted exact input (told input safe) orders);
+  filters = λ exact condition input safe. safe_answer (filter_rule nat_eq exact input condition)
+      (tested_are_sound.filters exact condition input safe.sound) (filtered exact input (told input safe) condition);
+  sorts = λ exact orders input safe. safe_answer (sort_rule nat_eq exact input orders)
+      (tested_are_sound.sorts exact orders input safe.sound) (sorted exact input (told input safe) orders);
 }
 
 pub projections_are_safe : ProjectionsAre IsNullSafe
 projections_are_safe = record {
-  values = λ exact fresh exprs input safe. safe_answer (plain_projection nat_eq exact fresh input exprs) (projections_sound.values exact fresh exprs input safe.sound)
+  values = λ exact fresh exprs input safe. safe_answer (plain_projection nat_eq exact fresh input exprs)
+      (projections_sound.values exact fresh exprs input safe.sound)
       (plain_tells exact input (told input safe) fresh exprs);
-  more_columns = λ exact fresh aliases input safe. safe_answer (with_columns_rule nat_eq exact fresh input aliases) (projections_sound.more_columns exact fresh aliases input safe.sound)
+  more_columns = λ exact fresh aliases input safe. safe_answer (with_columns_rule nat_eq exact fresh input aliases)
+      (projections_sound.more_columns exact fresh aliases input safe.sound)
       (more_tells exact input (told input safe) fresh aliases);
 }

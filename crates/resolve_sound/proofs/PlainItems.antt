@@ -31,7 +31,8 @@ module _ (exact : Bool) (columns : List (ColumnOf ℕ)) (relations : List (Tagge
   Here itemized = P itemized.item
 
   abbrev pub TypedHold : Type 0
-  TypedHold = (name : List ℕ) (bare : Bool) (expr : Expr) → IfOk (typed_item nat_eq exact columns relations name bare expr false []) (λ itemized. P itemized.item)
+  TypedHold = (name : List ℕ) (bare : Bool) (expr : Expr) →
+      IfOk (typed_item nat_eq exact columns relations name bare expr false []) (λ itemized. P itemized.item)
 
   some_hold : (identifier : List ℕ) (items : List Item) → All P items → IfOk (some_items identifier items) (All P)
   some_hold identifier [] h = tt
@@ -42,7 +43,8 @@ module _ (exact : Bool) (columns : List (ColumnOf ℕ)) (relations : List (Tagge
     unfolding star_items
     star_holds None = all_passing P any_column columns as_they_are
     star_holds (Some target) = then_holds (All P) (parts_of (target_name target)) _ (λ parts is.
-        some_hold (target_name target) (items_where (has_qualifier exact parts) 0 columns) (all_passing P (has_qualifier exact parts) columns as_they_are))
+        some_hold (target_name target) (items_where (has_qualifier exact parts) 0 columns)
+        (all_passing P (has_qualifier exact parts) columns as_they_are))
 
   module _ (typed : TypedHold) where
     by_holds : (alias : Option (Alias Expr)) (expr : Expr) → IfOk (item_by nat_eq exact columns relations alias expr false []) Here
@@ -92,7 +94,8 @@ module _ (exact : Bool) (columns : List (ColumnOf ℕ)) (relations : List (Tagge
   typed_over_columns name bare expr =
       then_holds (λ itemized. Over itemized.item) (typed_over nat_eq exact columns relations expr false []) _ (λ typing is.
       then_holds (λ itemized. Over itemized.item) (or_refused untyped typing.expr) _ (λ typed there_is.
-      values_are_well_formed exact columns relations expr typed (ap (λ (o : Checked _). o >>= λ t. or_refused untyped t.expr) is ∙ there_is)))
+      values_are_well_formed exact columns relations expr typed
+      (ap (λ (o : Checked _). o >>= λ t. or_refused untyped t.expr) is ∙ there_is)))
 
   pub star_over : (target : Option (List ℕ)) → IfOk (star_items exact columns target) (All Over)
   star_over = star_holds exact columns relations Over (columns_over columns)

@@ -9,7 +9,8 @@ use Rattle.plan_model.specs.Casts.{cast_to}
 use Rattle.plan_model.specs.FunctionTypes.{can_cast}
 use Rattle.plan_model.specs.Truth.{is_present}
 
-pub cast_present : (a kind : DataType) (value : Value) → can_cast a kind ≡ true → HasType a value → is_present value ≡ true → is_present (cast_to kind value) ≡ true
+pub cast_present : (a kind : DataType) (value : Value) → can_cast a kind ≡ true → HasType a value → is_present value ≡ true →
+    is_present (cast_to kind value) ≡ true
 cast_present K.Boolean kind Null casts typed there = cc
 cast_present K.Boolean K.Boolean (Boolean b) casts typed there = refl
 cast_present K.Boolean K.Integer (Boolean b) casts typed there = refl

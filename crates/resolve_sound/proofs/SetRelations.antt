@@ -46,9 +46,11 @@ each_holds P [] all = All-nil P
 each_holds P (o ∷ os) all =
     then_holds (All P) o _ (λ x is.
     then_holds (All P) (all_checked os) _ (λ xs are.
-    All-cons P x xs (IfOk-at_ok P is (All-head (λ (c : Checked _). IfOk c P) o os all)) (IfOk-at_ok (All P) are (each_holds P os (All-tail (λ (c : Checked _). IfOk c P) o os all)))))
+    All-cons P x xs (IfOk-at_ok P is (All-head (λ (c : Checked _). IfOk c P) o os all))
+    (IfOk-at_ok (All P) are (each_holds P os (All-tail (λ (c : Checked _). IfOk c P) o os all)))))
 
-each_numbered : {X Y : Type 0} (P : Y → Type 0) (f : ℕ → X → Y) → ((n : ℕ) (x : X) → P (f n x)) → (n : ℕ) (xs : List X) → All P (numbered_from f n xs)
+each_numbered : {X Y : Type 0} (P : Y → Type 0) (f : ℕ → X → Y) → ((n : ℕ) (x : X) → P (f n x)) → (n : ℕ) (xs : List X) →
+    All P (numbered_from f n xs)
 each_numbered P f h n [] = All-nil P
 each_numbered P f h n (x ∷ xs) = All-cons P (f n x) (numbered_from f (suc n) xs) (h n x) (each_numbered P f h (suc n) xs)
 
@@ -152,7 +154,8 @@ module _ {I : Type 0} (left right : List (ColumnOf I)) where
   pub all_fit : (places : List Places) → IfOk (aligned left right places) (All (IsFitting left right))
   unfolding aligned
   all_fit places = each_holds (IsFitting left right) (numbered (aligned_at left right) places)
-      (each_numbered (λ (o : Checked Aligned). IfOk o (IsFitting left right)) (aligned_at left right) (λ n one. there (IsFitting left right) _ _ (fits_as one _ refl)) 0 places)
+      (each_numbered (λ (o : Checked Aligned). IfOk o (IsFitting left right)) (aligned_at left right)
+      (λ n one. there (IsFitting left right) _ _ (fits_as one _ refl)) 0 places)
 
 -- ---- a side
 
@@ -168,25 +171,34 @@ module _ {I : Type 0} (columns : List (ColumnOf I)) where
   null_over kind = record { over = made-Literal Form Value.Null kind tt; typed = kind_of-Literal Value.Null kind }
 
   pub own_over : (place : ℕ) (column : ColumnOf I) → slice_get columns place ≡ Some column → IsOver (kinds columns) (own_value place column)
-  own_over place column is = made-Column Form place column.kind (slice_get-map (λ c. c.kind) columns place ∙ ap (option_map (λ c. c.kind)) is)
+  own_over place column is = made-Column Form place column.kind
+      (slice_get-map (λ c. c.kind) columns place ∙ ap (option_map (λ c. c.kind)) is)
 
-  cast_over : (kind : DataType) (place : ℕ) (column : ColumnOf I) → slice_get columns place ≡ Some column → can_cast column.kind kind ≡ true →
+  cast_over : (kind : DataType) (place : ℕ) (column : ColumnOf I) → slice_get columns place ≡ Some column →
+      can_cast column.kind kind ≡ true →
       IsValue (kinds columns) kind (as_kind kind place column)
   cast_over kind place column is casts = by (same_kind kind column.kind) refl
     where
       by : (b : Bool) → same_kind kind column.kind ≡ b →
           IsValue (kinds columns) kind (if b then T.Column place column.kind else T.Cast (T.Column place column.kind) kind)
-      by true same = record { over = own_over place column is; typed = kind_of-Column place column.kind ∙ sym (same_kind-is kind column.kind same) }
+      by true same = record {
+        over = own_over place column is;
+        typed = kind_of-Column place column.kind
+            ∙ sym (same_kind-is kind column.kind same);
+      }
       by false other = record {
-        over = made-Cast Form (T.Column place column.kind) kind (ap (λ (k : DataType). can_cast k kind) (kind_of-Column place column.kind) ∙ casts) (own_over place column is);
+        over = made-Cast Form (T.Column place column.kind) kind
+            (ap (λ (k : DataType). can_cast k kind) (kind_of-Column place column.kind) ∙ casts) (own_over place column is);
         typed = kind_of-Cast (T.Column place column.kind) kind;
       }
 
-  at_over : (kind : DataType) (place : ℕ) (column : Option (ColumnOf I)) → slice_get columns place ≡ column → Casts kind column → IsValue (kinds columns) kind (value_at kind place column)
+  at_over : (kind : DataType) (place : ℕ) (column : Option (ColumnOf I)) → slice_get columns place ≡ column → Casts kind column →
+      IsValue (kinds columns) kind (value_at kind place column)
   at_over kind place (Some column) is casts = cast_over kind place column is casts
   at_over kind place None is casts = null_over kind
 
-  side_over : (kind : DataType) (place : Option ℕ) → Casts kind (column_at columns place) → IsValue (kinds columns) kind (side_value columns kind place)
+  side_over : (kind : DataType) (place : Option ℕ) → Casts kind (column_at columns place) →
+      IsValue (kinds columns) kind (side_value columns kind place)
   side_over kind (Some place) casts = at_over kind place (slice_get columns place) refl casts
   side_over kind None casts = null_over kind
 
@@ -218,29 +230,34 @@ all_are [] (other ∷ others) e = absurd (let h : ⊥ = cc in h)
 all_are (expr ∷ exprs) [] e = absurd (let h : ⊥ = cc in h)
 all_are (expr ∷ exprs) (other ∷ others) e =
     let parts = and_parts (same_expr expr other) (all_same (map same_expr exprs) others) e in
-    ap (λ (x : TypedExpr). x ∷ exprs) ((same_is_equal expr other).0 parts.0) ∙ ap (λ (xs : List TypedExpr). other ∷ xs) (all_are exprs others parts.1)
+    ap (λ (x : TypedExpr). x ∷ exprs) ((same_is_equal expr other).0 parts.0)
+    ∙ ap (λ (xs : List TypedExpr). other ∷ xs) (all_are exprs others parts.1)
 
 own_kinds : {I : Type 0} (n : ℕ) (columns : List (ColumnOf I)) → kinds_of (numbered_from own_value n columns) ≡ kinds columns
 own_kinds n [] = refl
 own_kinds n (c ∷ cs) =
-    ap (λ (k : DataType). k ∷ kinds_of (numbered_from own_value (suc n) cs)) (kind_of-Column n c.kind) ∙ ap (λ (ks : List DataType). c.kind ∷ ks) (own_kinds (suc n) cs)
+    ap (λ (k : DataType). k ∷ kinds_of (numbered_from own_value (suc n) cs)) (kind_of-Column n c.kind)
+    ∙ ap (λ (ks : List DataType). c.kind ∷ ks) (own_kinds (suc n) cs)
 
 record IsSide (kinds : List DataType) (node : Node) : Type 0 where
   formed : IsWellFormed node
   typed : types node ≡ kinds
 
-module _ {I : Type 0} (input : FoundOf I) (sound : IsSoundFound input) (values : List TypedExpr) (over : All (IsOver (kinds input.columns)) values) where
+module _ {I : Type 0} (input : FoundOf I) (sound : IsSoundFound input) (values : List TypedExpr)
+    (over : All (IsOver (kinds input.columns)) values) where
   side_sound : IsSide (kinds_of values) (side input values)
   unfolding side is_whole
   side_sound = by (all_same (map same_expr values) (numbered own_value input.columns)) refl
     where
-      by : (b : Bool) → all_same (map same_expr values) (numbered own_value input.columns) ≡ b → IsSide (kinds_of values) (if b then input.node else V.Project input.node values)
+      by : (b : Bool) → all_same (map same_expr values) (numbered own_value input.columns) ≡ b →
+          IsSide (kinds_of values) (if b then input.node else V.Project input.node values)
       by true whole = record {
         formed = sound.node;
         typed = sound.columns ∙ sym (ap kinds_of (all_are values (numbered own_value input.columns) whole) ∙ own_kinds 0 input.columns);
       }
       by false part = record {
-        formed = made-Project IsSound input.node values (subst (λ (ks : List DataType). All (IsOver ks) values) (sym sound.columns) over) sound.node;
+        formed = made-Project IsSound input.node values
+            (subst (λ (ks : List DataType). All (IsOver ks) values) (sym sound.columns) over) sound.node;
         typed = types-Project input.node values;
       }
 
@@ -252,20 +269,28 @@ set_kind id kind (Some a) None = refl
 set_kind id kind None (Some b) = refl
 set_kind id kind None None = refl
 
-module _ {I : Type 0} (exact : Bool) (fresh : ℕ → I) (left right : FoundOf I) (on_left : IsSoundFound left) (on_right : IsSoundFound right) where
-  combined_sound : (kind : SetKind) (all : Bool) (ones : List Aligned) → All (IsFitting left.columns right.columns) ones → IsSoundFound (combined fresh left right kind all ones)
+module _ {I : Type 0} (exact : Bool) (fresh : ℕ → I) (left right : FoundOf I) (on_left : IsSoundFound left)
+    (on_right : IsSoundFound right) where
+  combined_sound : (kind : SetKind) (all : Bool) (ones : List Aligned) → All (IsFitting left.columns right.columns) ones →
+      IsSoundFound (combined fresh left right kind all ones)
   unfolding combined
   combined_sound kind all ones fit =
-      let left_fit = All-weaker (IsFitting left.columns right.columns) (Fitting left.columns (λ one. one.left)) (λ one h. h.on_left) ones fit in
-      let right_fit = All-weaker (IsFitting left.columns right.columns) (Fitting right.columns (λ one. one.right)) (λ one h. h.on_right) ones fit in
+      let left_fit = All-weaker (IsFitting left.columns right.columns) (Fitting left.columns (λ one. one.left))
+      (λ one h. h.on_left) ones fit in
+      let right_fit = All-weaker (IsFitting left.columns right.columns) (Fitting right.columns (λ one. one.right))
+      (λ one h. h.on_right) ones fit in
       let l = side_sound left on_left (map (left_value left.columns) ones) (values_over left.columns (λ one. one.left) ones left_fit) in
-      let r = side_sound right on_right (map (right_value right.columns) ones) (values_over right.columns (λ one. one.right) ones right_fit) in
+      let r = side_sound right on_right (map (right_value right.columns) ones)
+      (values_over right.columns (λ one. one.right) ones right_fit) in
       let left_typed = l.typed ∙ values_typed left.columns (λ one. one.left) ones left_fit in
       let right_typed = r.typed ∙ values_typed right.columns (λ one. one.right) ones right_fit in
       record {
-        node = made-SetOp IsSound (side left (map (left_value left.columns) ones)) (side right (map (right_value right.columns) ones)) kind all (left_typed ∙ sym right_typed) l.formed r.formed;
-        columns = types-SetOp (side left (map (left_value left.columns) ones)) (side right (map (right_value right.columns) ones)) kind all ∙ left_typed
-        ∙ sym (kinds_numbered (aligned_column fresh left.columns right.columns) (λ one. one.kind) (λ n one. set_kind (fresh n) one.kind _ _) 0 ones);
+        node = made-SetOp IsSound (side left (map (left_value left.columns) ones))
+            (side right (map (right_value right.columns) ones)) kind all (left_typed ∙ sym right_typed) l.formed r.formed;
+        columns = types-SetOp (side left (map (left_value left.columns) ones)) (side right (map (right_value right.columns) ones)) kind all
+            ∙ left_typed
+            ∙ sym (kinds_numbered (aligned_column fresh left.columns right.columns) (λ one. one.kind)
+            (λ n one. set_kind (fresh n) one.kind _ _) 0 ones);
       }
 
   pub set_sound : (number : ℤ) (all named missing : Bool) → IfOk (set_rule exact fresh left right number all named missing) IsSoundFound
@@ -275,7 +300,11 @@ module _ {I : Type 0} (exact : Bool) (fresh : ℕ → I) (left right : FoundOf I
       then_holds IsSoundFound (unless (named && not (is_union kind)) _) _ (λ u options.
       then_holds IsSoundFound (places_of exact named missing left.columns right.columns) _ (λ places at.
       then_holds IsSoundFound (aligned left.columns right.columns places) _ (λ ones are.
-      combined_sound kind all ones (IfOk-at_ok (All (IsFitting left.columns right.columns)) are (all_fit left.columns right.columns places))))))
+      combined_sound kind all ones (IfOk-at_ok (All (IsFitting left.columns right.columns)) are
+      (all_fit left.columns right.columns places))))))
 
 pub sets_sound : (I : Type 0) → SetOperationsAre I IsSoundFound
-sets_sound I = record { set_operations = λ exact fresh number all named missing left right on_left on_right. set_sound exact fresh left right on_left on_right number all named missing }
+sets_sound I = record {
+  set_operations = λ exact fresh number all named missing left right on_left on_right.
+      set_sound exact fresh left right on_left on_right number all named missing;
+}

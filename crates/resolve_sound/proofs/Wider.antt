@@ -20,17 +20,21 @@ module _ (columns more : List DataType) where
   abbrev Widens : TypedExpr → Type 0
   Widens expr = IsOver columns expr → IsOver (columns ++ more) expr
 
-  all_widen : (exprs : List TypedExpr) → AllByRecursion Widens exprs → AllByRecursion (IsOver columns) exprs → AllByRecursion (IsOver (columns ++ more)) exprs
+  all_widen : (exprs : List TypedExpr) → AllByRecursion Widens exprs → AllByRecursion (IsOver columns) exprs →
+      AllByRecursion (IsOver (columns ++ more)) exprs
   all_widen [] w h = tt
   all_widen (expr ∷ exprs) w h = (w.0 h.0, all_widen exprs w.1 h.1)
 
   widen_forms : Forms Widens
   widen_forms = record {
-    column = λ place kind h. made-Column After place kind (get_more columns more place kind (every_here Before (V.Column place kind) (O.Column place kind) (V.outs-Column place kind) h));
-    literal = λ value kind h. made-Literal After value kind (every_here Before (V.Literal value kind) (O.Literal value kind) (V.outs-Literal value kind) h);
+    column = λ place kind h. made-Column After place kind
+        (get_more columns more place kind (every_here Before (V.Column place kind) (O.Column place kind) (V.outs-Column place kind) h));
+    literal = λ value kind h. made-Literal After value kind
+        (every_here Before (V.Literal value kind) (O.Literal value kind) (V.outs-Literal value kind) h);
     call_form = λ function arguments kind w h. made-Call After function arguments kind
         (every_here Before (V.Call function arguments kind) (O.Call function arguments kind) (V.outs-Call function arguments kind) h)
-        (all_widen arguments w (every_part Before (V.Call function arguments kind) (O.Call function arguments kind) (V.outs-Call function arguments kind) h));
+        (all_widen arguments w (every_part Before (V.Call function arguments kind) (O.Call function arguments kind)
+        (V.outs-Call function arguments kind) h));
     cast = λ child kind w h. made-Cast After child kind
         (every_here Before (V.Cast child kind) (O.Cast child kind) (V.outs-Cast child kind) h)
         (w (every_part Before (V.Cast child kind) (O.Cast child kind) (V.outs-Cast child kind) h).0);

@@ -1,4 +1,4 @@
--- What the rules of relations keep: of such relations, sound ones say, they make such ones.
+-- What the rules of relations keep: of relations of which something holds, as that they are sound, they make such ones.
 use Rattle.std.specs.Prelude.{ℕ, ℤ, nat_eq, Bool, List, IfOk, Ok}
 use Rattle.table_store.specs.declared.tables.NamedTable.{NamedTable}
 use Rattle.expression_messages.specs.declared.expression.Alias.{Alias}
@@ -20,7 +20,8 @@ pub record KeptRelationsAre (I : Type 0) (Is : FoundOf I → Type 0) : Type 0 wh
 
 pub record RenamedRelationsAre (I : Type 0) (Is : FoundOf I → Type 0) : Type 0 where
   pub all_renamed : (fresh : ℕ → I) (names : List (List ℕ)) → Keeps Is (λ input. to_df_rule fresh input names)
-  pub some_renamed : (exact : Bool) (fresh : ℕ → I) (entries : List RenameEntry) → Keeps Is (λ input. Ok (renamed_rule exact fresh input entries))
+  pub some_renamed : (exact : Bool) (fresh : ℕ → I) (entries : List RenameEntry) →
+      Keeps Is (λ input. Ok (renamed_rule exact fresh input entries))
 
 pub record FewerColumnsAre (I : Type 0) (Is : FoundOf I → Type 0) : Type 0 where
   pub fewer_columns : (same : I → I → Bool) (exact : Bool) (exprs : List Expr) (names : List (List ℕ)) →
@@ -39,7 +40,8 @@ pub record TestedRelationsAre (Is : FoundOf ℕ → Type 0) : Type 0 where
 
 pub record ProjectionsAre (Is : FoundOf ℕ → Type 0) : Type 0 where
   pub values : (exact : Bool) (fresh : ℕ → ℕ) (exprs : List Expr) → Keeps Is (λ input. plain_projection nat_eq exact fresh input exprs)
-  pub more_columns : (exact : Bool) (fresh : ℕ → ℕ) (aliases : List (Alias Expr)) → Keeps Is (λ input. with_columns_rule nat_eq exact fresh input aliases)
+  pub more_columns : (exact : Bool) (fresh : ℕ → ℕ) (aliases : List (Alias Expr)) →
+      Keeps Is (λ input. with_columns_rule nat_eq exact fresh input aliases)
 
 pub record AggregatesAre (Is : FoundOf ℕ → Type 0) : Type 0 where
   pub groups : (exact : Bool) (fresh : ℕ → ℕ) (group_type : ℤ) (groupings exprs : List Expr) →

@@ -1,4 +1,4 @@
--- What the rules of two relations keep: of such relations they make such ones.
+-- What the rules of two relations keep: of relations of which something holds they make such ones.
 use Rattle.std.specs.Prelude.{ℕ, ℤ, nat_eq, Bool, List, Option}
 use Rattle.expression_messages.specs.declared.expression.Expr.{Expr}
 use Rattle.resolve_relations.specs.declared.found.FoundOf.{FoundOf}

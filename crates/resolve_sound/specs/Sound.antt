@@ -1,4 +1,4 @@
--- When a resolved relation is sound, and when it tells its nulls; which rules keep it so.
+-- When a resolved relation is sound, when its columns tell where nulls are, and which rules keep that.
 use Rattle.std.specs.Prelude.{◌≡◌, ◌||◌, Bool, IsTrue, List, [], ◌∷◌, All, map, IfOk, Ok}
 use Rattle.cn_types.specs.declared.row.Row.{Row}
 use Rattle.cn_types.specs.declared.schema.Schema.{Schema}
@@ -47,11 +47,11 @@ pub record IsNullSafe {I : Type 0} (found : FoundOf I) : Type 0 where
 
 -- ---- rules
 
--- a rule that makes such a relation of such a one, where it makes one
+-- a rule that makes a relation of which this holds of such a one, or refuses
 abbrev pub Keeps : {I : Type 0} → (FoundOf I → Type 0) → (FoundOf I → Checked (FoundOf I)) → Type 0
 Keeps {I = I} Is rule = (input : FoundOf I) → Is input → IfOk (rule input) Is
 
--- a rule that makes such a relation of two such ones, where it makes one
+-- a rule that makes such a relation of two such ones, or refuses
 abbrev pub KeepsBoth : {I : Type 0} → (FoundOf I → Type 0) → (FoundOf I → FoundOf I → Checked (FoundOf I)) → Type 0
 KeepsBoth {I = I} Is rule = (left right : FoundOf I) → Is left → Is right → IfOk (rule left right) Is
 

@@ -6,8 +6,8 @@ mod null_laws;
 mod pair_laws;
 
 pub use laws::{
-    aggregates_are_sound, fewer_columns_are_sound, kept_relations_are_sound, leaves_are_sound, projections_are_sound,
-    renamed_relations_are_sound, tested_relations_are_sound,
+    aggregates_are_sound, fewer_columns_are_sound, kept_relations_are_sound, leaves_are_sound,
+    projections_are_sound, renamed_relations_are_sound, tested_relations_are_sound,
 };
 pub use null_laws::{
     aggregates_tell_nulls, fewer_columns_tell_nulls, kept_relations_tell_nulls, leaves_tell_nulls,
