@@ -1,6 +1,6 @@
 -- Items of an aggregate are over the keys' and the calls' values.
-use Rattle.std.proofs.Common.{◌≡◌, ℕ, zero, suc, Bool, true, false, List, [], ◌∷◌, ◌++◌, map, length, refl, sym, ap, ◌∙◌, subst, append_assoc, arith, Option, Some, None}
-use Rattle.std.specs.Prelude.{All, IfOk, Ok, nat_eq, slice_get}
+use Rattle.std.proofs.Common.{◌≡◌, ℕ, zero, suc, Bool, true, false, List, [], ◌∷◌, ◌++◌, length, refl, sym, ap, ◌∙◌, subst, append_assoc, arith, Option, Some, None}
+use Rattle.std.specs.Prelude.{All, IfOk, nat_eq, slice_get}
 use Rattle.std.specs.List.{AllZip}
 use Rattle.std.proofs.lemmas.List.{append-nil, length_push}
 use Rattle.std.proofs.lemmas.List.Elements.{All-append, All-cons, All-nil, All-weaker}
@@ -16,7 +16,7 @@ use Rattle.plan_model.specs.WellFormed.{IsCallOver, IsFormOver, IsOver}
 use Rattle.plan_model.proofs.ExpressionFacts.{made-Column}
 use Rattle.resolve_names.specs.declared.scope.ColumnOf.{ColumnOf}
 use Rattle.resolve_names.specs.declared.scope.Tagged.{Tagged}
-use Rattle.resolve_names.specs.Checks.{Checked, ◌>>=◌, or_refused}
+use Rattle.resolve_names.specs.Checks.{or_refused}
 use Rattle.resolve_functions.specs.Arguments.{untyped}
 use Rattle.resolve_expressions.specs.declared.item.Item.{Item}
 use Rattle.resolve_expressions.specs.Grouping.{regrouped, regrouped_item}

@@ -1,6 +1,6 @@
 -- Joins.
-use Rattle.std.proofs.Common.{◌≡◌, ℕ, ℤ, zero, suc, ◌+◌, Bool, true, false, List, [], ◌∷◌, ◌++◌, map, length, refl, sym, ap, ◌∙◌, subst, arith, Option, Some, None}
-use Rattle.std.specs.Prelude.{All, IfOk, IfSome, Ok, nat_eq, pos, codes, filter, filter_map, option_map, slice_get, ◌==◌, not, if◌then◌else◌}
+use Rattle.std.proofs.Common.{◌≡◌, ℕ, ℤ, zero, suc, ◌+◌, Bool, true, false, List, [], ◌∷◌, ◌++◌, map, length, refl, sym, ap, ◌∙◌, subst, Option, Some, None}
+use Rattle.std.specs.Prelude.{All, IfOk, IfSome, Ok, nat_eq, codes, filter, filter_map, option_map, slice_get, ◌==◌, not}
 use Rattle.std.specs.List.{cons_option}
 use Rattle.std.proofs.lemmas.List.{append-nil, length-map, map-append}
 use Rattle.std.proofs.lemmas.List.Elements.{All-append, All-cons, All-filter, All-head, All-nil, All-tail}
@@ -13,15 +13,14 @@ use Rattle.plan_model.specs.declared.expression.TypedExpr.TheOpen.{TypedExpr-F}
 use Rattle.plan_model.specs.declared.expression.TypedExpr.TheVariants as T
 use Rattle.plan_model.specs.declared.function.Function.{Function}
 use Rattle.plan_model.specs.declared.node.JoinKind.{JoinKind}
-use Rattle.plan_model.specs.declared.node.Node.TheVariants as V
 use Rattle.plan_model.specs.FunctionTypes.{always, call_type, common, exactly}
-use Rattle.plan_model.specs.NodeTypes.{join_types, kind_of, kinds_of, types}
+use Rattle.plan_model.specs.NodeTypes.{join_types, kind_of, types}
 use Rattle.plan_model.specs.WellFormed.{IsCondition, IsFormOver, IsOver, IsSound}
 use Rattle.plan_model.proofs.ExpressionFacts.{kind_of-Call, kind_of-Column, made-Call, made-Column}
 use Rattle.plan_model.proofs.NodeFacts.{made-Join}
 use Rattle.plan_model.proofs.TypesFacts.{types-Join}
 use Rattle.resolve_names.specs.declared.scope.ColumnOf.{ColumnOf}
-use Rattle.resolve_names.specs.Checks.{Checked, or_refused}
+use Rattle.resolve_names.specs.Checks.{◌>>=◌, or_refused}
 use Rattle.resolve_types.specs.Calls.{unless}
 use Rattle.resolve_expressions.specs.declared.item.Item.{Item}
 use Rattle.resolve_expressions.specs.Grouping.{all_checked}
@@ -32,7 +31,7 @@ use Rattle.resolve_relations.specs.declared.found.FoundOf.{FoundOf}
 use Rattle.resolve_relations.specs.Columns.{column_limit, projection}
 use Rattle.resolve_relations.specs.Keeping.{plain_place}
 use Rattle.resolve_joins.specs.declared.keys.KeyPair.{KeyPair}
-use Rattle.resolve_joins.specs.Joins.{clash, has_left_nulls, has_right_nulls, is_there, join_rule, joined, joined_columns, keyed, kind_numbered, kind_without, on_rule, perhaps_null, side_columns, using_rule}
+use Rattle.resolve_joins.specs.Joins.{clash, is_there, join_rule, joined, joined_columns, kind_numbered, kind_without, on_rule, perhaps_null, side_columns, using_rule}
 use Rattle.resolve_joins.specs.Keys.{all_equal, are_equal, both, is_rest, key_item, key_pair, left_value, merged, paired, right_value, using_items}
 use Rattle.resolve_sound.specs.PairLaws.{JoinsAre}
 use Rattle.resolve_sound.specs.Sound.{IsSoundFound, kinds}
@@ -252,9 +251,11 @@ module _ (exact : Bool) (fresh : ℕ → ℕ) (left right : FoundOf ℕ) (on_lef
         (using_over (kinds left.columns) (kinds right.columns) width Wide its_items kind keys
         (subst (λ (ks : List DataType). All (ItemOver ks) its_items) same_kinds (passing_over any_column pairs.columns)) are_keys)
 
-    keyed_sound : IfOk (keyed nat_eq exact fresh kind width pairs keys) IsSoundFound
-    keyed_sound = then_holds IsSoundFound (column_limit (length (using_items kind width keys its_items))) _ (λ u is.
-        projection_sound pairs pairs_sound fresh (using_items kind width keys its_items) keyed_over)
+    abbrev made : List Item
+    made = using_items kind width keys its_items
+
+    keyed_sound : IfOk (column_limit (length made) >>= λ counted. Ok (projection fresh pairs made)) IsSoundFound
+    keyed_sound = then_holds IsSoundFound (column_limit (length made)) _ (λ u is. projection_sound pairs pairs_sound fresh made keyed_over)
 
   by_keys : (kind : JoinKind) (names : List (List ℕ)) → IfOk (using_rule nat_eq exact fresh kind left right names) IsSoundFound
   unfolding using_rule

@@ -1,11 +1,10 @@
 -- A typing keeps the aggregate calls so far, and puts its own behind them.
-use Rattle.std.proofs.Common.{◌≡◌, ℕ, Bool, true, false, List, [], ◌∷◌, ◌++◌, map, length, refl, sym, ap, ◌∙◌, subst, append_assoc, Option, Some, None}
-use Rattle.std.specs.Prelude.{◌&&◌, IfOk, Ok, nat_eq, if◌then◌else◌}
+use Rattle.std.proofs.Common.{◌≡◌, ℕ, Bool, true, false, List, [], ◌∷◌, ◌++◌, map, length, refl, sym, ap, ◌∙◌, subst, append_assoc, Option, None}
+use Rattle.std.specs.Prelude.{◌&&◌, IfOk, Ok, if◌then◌else◌}
 use Rattle.std.specs.List.{AllByRecursion}
 use Rattle.std.specs.Str.{str_to_ascii_lowercase}
 use Rattle.std.proofs.lemmas.List.{append-nil}
 use Rattle.std.proofs.lemmas.Result.{IfOk-at_ok}
-use Rattle.cn_types.specs.declared.value.DataType.{DataType}
 use Rattle.expression_messages.specs.declared.expression.Cast.{Cast}
 use Rattle.expression_messages.specs.declared.expression.UnresolvedFunction.{UnresolvedFunction}
 use Rattle.expression_messages.specs.declared.expression.Expr.{Expr}
@@ -18,7 +17,7 @@ use Rattle.plan_model.specs.declared.function.Function.{Function}
 use Rattle.plan_model.specs.declared.node.AggregateCall.{AggregateCall}
 use Rattle.resolve_names.specs.declared.scope.ColumnOf.{ColumnOf}
 use Rattle.resolve_names.specs.declared.scope.Tagged.{Tagged}
-use Rattle.resolve_names.specs.Checks.{Checked, ◌>>=◌}
+use Rattle.resolve_names.specs.Checks.{Checked}
 use Rattle.resolve_functions.specs.Arguments.{is_aggregate, typed_call}
 use Rattle.resolve_types.specs.Calls.{aggregate_of, called, is_count}
 use Rattle.resolve_types.specs.Leaves.{typed_attribute, typed_cast, typed_literal}

@@ -1,11 +1,10 @@
 -- Relations that keep the columns of their input, leaves, and relations under other names.
-use Rattle.std.proofs.Common.{◌≡◌, ℕ, ℤ, ◌<◌, Bool, true, false, List, [], ◌∷◌, map, length, refl, sym, ap, ◌∙◌, subst, Option, Some, None}
-use Rattle.std.specs.Prelude.{◌≢◌, ◌||◌, ◌==◌, pos, nat_eq, not, All, IfOk, IfSome, Ok, codes, find}
+use Rattle.std.proofs.Common.{◌≡◌, ℕ, ℤ, ◌<◌, Bool, true, false, List, map, length, refl, sym, ap, ◌∙◌, subst, Option, Some, None}
+use Rattle.std.specs.Prelude.{◌≢◌, ◌||◌, ◌==◌, pos, nat_eq, not, All, IfOk, codes, find}
 use Rattle.std.specs.Ordering.{int_eq}
 use Rattle.std.proofs.lemmas.Bool.Decides.{Decides-int_eq}
 use Rattle.std.proofs.lemmas.List.{length-map}
-use Rattle.std.proofs.lemmas.Result.{IfOk-at_ok, IfOk-weaker}
-use Rattle.cn_types.specs.declared.schema.Field.{Field}
+use Rattle.std.proofs.lemmas.Result.{IfOk-at_ok}
 use Rattle.cn_types.specs.declared.value.DataType.{DataType}
 use Rattle.cn_types.specs.Fit.{Fits}
 use Rattle.table_store.specs.declared.tables.NamedTable.{NamedTable}
@@ -20,7 +19,7 @@ use Rattle.plan_model.specs.WellFormed.{IsCondition, IsOver, IsSound, IsWellForm
 use Rattle.plan_model.proofs.NodeFacts.{made-DistinctOn, made-Filter, made-Range, made-Rows, made-Slice, made-Sort}
 use Rattle.plan_model.proofs.TypesFacts.{types-DistinctOn, types-Filter, types-Range, types-Rows, types-Slice, types-Sort}
 use Rattle.resolve_names.specs.declared.scope.ColumnOf.{ColumnOf}
-use Rattle.resolve_names.specs.Checks.{Checked, or_refused}
+use Rattle.resolve_names.specs.Checks.{or_refused}
 use Rattle.resolve_types.specs.Calls.{unless}
 use Rattle.resolve_expressions.specs.Grouping.{all_checked}
 use Rattle.resolve_expressions.specs.Outputs.{condition_of, sort_key_of, sort_keys_of, value_of}

@@ -1,21 +1,17 @@
 -- Projections and aggregates.
-use Rattle.std.proofs.Common.{◌≡◌, ℕ, ℤ, Bool, true, false, List, [], ◌∷◌, ◌++◌, map, length, refl, sym, ap, ◌∙◌, subst, Option, Some, None}
-use Rattle.std.specs.Prelude.{All, IfOk, IfSome, Ok, nat_eq, filter, find, option_map, unwrap_or}
+use Rattle.std.proofs.Common.{ℕ, ℤ, Bool, true, false, List, [], ◌++◌, map, length, sym, ◌∙◌, subst, Option, Some, None}
+use Rattle.std.specs.Prelude.{All, IfOk, IfSome, nat_eq, filter, find, option_map, unwrap_or}
 use Rattle.std.specs.List.{AllZip, list_any}
 use Rattle.std.proofs.lemmas.List.Elements.{All-append, All-filter, All-map, All-nil}
 use Rattle.std.proofs.lemmas.Result.{IfOk-at_ok}
 use Rattle.cn_types.specs.declared.value.DataType.{DataType}
 use Rattle.expression_messages.specs.declared.expression.Alias.{Alias}
 use Rattle.expression_messages.specs.declared.expression.Expr.{Expr}
-use Rattle.plan_model.specs.declared.expression.TypedExpr.{TypedExpr}
-use Rattle.plan_model.specs.declared.node.AggregateCall.{AggregateCall}
-use Rattle.plan_model.specs.declared.node.Node.TheVariants as V
 use Rattle.plan_model.specs.NodeTypes.{kinds_of, types}
 use Rattle.plan_model.specs.WellFormed.{IsCallOver, IsOver, IsSound}
 use Rattle.plan_model.proofs.NodeFacts.{made-Aggregate, made-Project}
 use Rattle.plan_model.proofs.TypesFacts.{types-Aggregate, types-Project}
 use Rattle.resolve_names.specs.declared.scope.ColumnOf.{ColumnOf}
-use Rattle.resolve_names.specs.Checks.{Checked, ◌>>=◌}
 use Rattle.resolve_names.specs.Matching.{name_matches}
 use Rattle.resolve_expressions.specs.declared.item.Item.{Item}
 use Rattle.resolve_expressions.specs.Grouping.{all_checked, has_aggregate}

@@ -1,5 +1,5 @@
 -- What holds of each row that a relation allows, by what holds of each row of its inputs.
-use Rattle.std.proofs.Common.{◌≡◌, ◌<◌, ℕ, ℤ, Bool, Option, None, Some, List, [], ◌∷◌, ◌++◌, map, filter, take, drop, sym, subst, arith, ◌⊎◌, inl, inr}
+use Rattle.std.proofs.Common.{◌≡◌, ◌<◌, ℕ, ℤ, Bool, Option, None, Some, List, [], ◌∷◌, ◌++◌, map, take, drop, sym, subst, arith, ◌⊎◌, inl, inr}
 use Rattle.std.specs.Prelude.{Ok}
 use Rattle.std.specs.List.{AllByRecursion, flat_map}
 use Rattle.std.proofs.lemmas.List.Elements.{All-drop, All-from_recursion, All-take, recursion_from_All}
@@ -16,11 +16,11 @@ use Rattle.plan_model.specs.declared.node.SortKey.{SortKey}
 use Rattle.plan_model.specs.Allows.{Allows, joining_of}
 use Rattle.plan_model.specs.Counts.{SameCounts, once}
 use Rattle.plan_model.specs.Groups.{IsAggregate, IsDistinctOn, aggregated, key_values}
-use Rattle.plan_model.specs.Joins.{IsJoin, Joining, joined}
-use Rattle.plan_model.specs.Outcomes.{Allowed, After, Bounded}
+use Rattle.plan_model.specs.Joins.{IsJoin, joined}
+use Rattle.plan_model.specs.Outcomes.{After, Bounded}
 use Rattle.plan_model.specs.Ranges.{IsRange, row_of}
 use Rattle.plan_model.specs.Selections.{image, projected, selected, sliced}
-use Rattle.plan_model.specs.SetOperations.{IsSetOperation, copies}
+use Rattle.plan_model.specs.SetOperations.{IsSetOperation}
 use Rattle.plan_model.specs.Sorting.{IsSort}
 use Rattle.plan_model.specs.Truth.{is_true}
 use Rattle.plan_model.specs.Val.{val}

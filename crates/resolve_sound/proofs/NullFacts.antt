@@ -1,14 +1,11 @@
 -- Values beside what their columns say of nulls.
-use Rattle.std.proofs.Common.{◌≡◌, ◌≢◌, ℕ, zero, suc, ◌+◌, Bool, true, false, List, [], ◌∷◌, ◌++◌, map, length, replicate, refl, sym, ap, ◌∙◌, subst, Option, Some, None}
-use Rattle.std.specs.Prelude.{◌||◌, not, All, IsTrue, slice_get, unwrap_or, Ok, filter, cond, if◌then◌else◌}
-use Rattle.std.specs.List.{AllByRecursion}
-use Rattle.std.proofs.lemmas.List.Elements.{All-from_recursion, All-head, All-tail, recursion_from_All}
+use Rattle.std.proofs.Common.{◌≡◌, ℕ, zero, suc, Bool, true, List, [], ◌∷◌, ◌++◌, map, length, refl, sym, ap, ◌∙◌, subst, Option, Some, None}
+use Rattle.std.specs.Prelude.{◌||◌, All, IsTrue, slice_get, unwrap_or}
+use Rattle.std.proofs.lemmas.List.Elements.{All-head, All-tail}
 use Rattle.cn_types.specs.declared.row.Row.{Row}
 use Rattle.cn_types.specs.declared.value.DataType.{DataType}
 use Rattle.cn_types.specs.declared.value.Value.{Value}
 use Rattle.cn_types.specs.declared.value.Value.TheVariants.{Null}
-use Rattle.cn_types.specs.Fit.{value_at}
-use Rattle.plan_model.specs.declared.expression.TypedExpr.{TypedExpr}
 use Rattle.plan_model.specs.declared.expression.TypedExpr.TheVariants as T
 use Rattle.plan_model.specs.Selections.{image}
 use Rattle.plan_model.specs.Truth.{is_present}
@@ -16,7 +13,7 @@ use Rattle.plan_model.specs.Val.{val}
 use Rattle.plan_model.proofs.ValueFacts.{values_of_forms}
 use Rattle.resolve_names.specs.declared.scope.ColumnOf.{ColumnOf}
 use Rattle.resolve_expressions.specs.declared.item.Item.{Item}
-use Rattle.resolve_expressions.specs.Stars.{column_item, item_where, items_where}
+use Rattle.resolve_expressions.specs.Stars.{column_item}
 use Rattle.resolve_relations.specs.Columns.{exprs_of, made_by, made_column, numbered_from}
 use Rattle.resolve_sound.specs.Sound.{FitsNulls, HaveNullsWithin, flags}
 

@@ -1,8 +1,8 @@
 -- Aggregates give no null but where their columns may have one.
 use Rattle.std.proofs.Common.{◌≡◌, ℕ, ℤ, zero, suc, ◌+◌, ◌-◌, ◌<◌, Bool, true, false, List, [], ◌∷◌, ◌++◌, map, length, get_or, refl, sym, ap, ◌∙◌, subst, arith, append_assoc, Option, Some, None}
-use Rattle.std.specs.Prelude.{◌||◌, not, All, IfOk, IfSome, Ok, Err, nat_eq, option_map, position, slice_get, unwrap_or}
+use Rattle.std.specs.Prelude.{not, All, IfOk, IfSome, Ok, nat_eq, option_map, position, slice_get, unwrap_or}
 use Rattle.std.specs.List.{AllByRecursion, list_any}
-use Rattle.std.proofs.lemmas.List.{append-nil, length-map, length_push}
+use Rattle.std.proofs.lemmas.List.{length-map, length_push}
 use Rattle.std.proofs.lemmas.List.Elements.{All-append, All-cons, All-head, All-map, All-nil, All-tail, All-weaker}
 use Rattle.std.proofs.lemmas.List.Quantifiers.{position-Some}
 use Rattle.std.proofs.lemmas.Option.{slice_get-map}
@@ -11,13 +11,11 @@ use Rattle.cn_types.specs.declared.row.Row.{Row}
 use Rattle.cn_types.specs.declared.value.DataType.{DataType}
 use Rattle.cn_types.specs.declared.value.Value.{Value}
 use Rattle.cn_types.specs.declared.value.Value.TheVariants.{Null}
-use Rattle.cn_types.specs.Fit.{value_at}
 use Rattle.expression_messages.specs.declared.expression.Alias.{Alias}
 use Rattle.expression_messages.specs.declared.expression.UnresolvedStar.{UnresolvedStar}
 use Rattle.expression_messages.specs.declared.expression.Expr.{Expr}
 use Rattle.plan_model.specs.declared.expression.TypedExpr.{TypedExpr}
 use Rattle.plan_model.specs.declared.expression.TypedExpr.TheVariants as T
-use Rattle.plan_model.specs.declared.function.Function.{Function}
 use Rattle.plan_model.specs.declared.node.AggregateCall.{AggregateCall}
 use Rattle.plan_model.specs.Aggregates.{call_value}
 use Rattle.plan_model.specs.Groups.{aggregated as group_row, group as group_of, key_and_calls, key_values}
@@ -30,7 +28,7 @@ use Rattle.plan_model.proofs.ExpressionFacts.{Forms, induct}
 use Rattle.plan_model.proofs.ValueFacts.{values_of_forms}
 use Rattle.resolve_names.specs.declared.scope.ColumnOf.{ColumnOf}
 use Rattle.resolve_names.specs.declared.scope.Tagged.{Tagged}
-use Rattle.resolve_names.specs.Checks.{Checked, ◌>>=◌, or_refused}
+use Rattle.resolve_names.specs.Checks.{Checked, or_refused}
 use Rattle.resolve_functions.specs.Arguments.{untyped}
 use Rattle.resolve_types.specs.Calls.{is_count}
 use Rattle.resolve_expressions.specs.declared.item.Item.{Item}
@@ -41,21 +39,21 @@ use Rattle.resolve_expressions.specs.Same.{same_expr}
 use Rattle.resolve_expressions.specs.Stars.{column_item, star_items}
 use Rattle.resolve_expressions.specs.Titles.{title}
 use Rattle.resolve_expressions.specs.Typings.{typed_over}
-use Rattle.resolve_expressions.proofs.GroupForms.{keyed-Call, keyed-Cast, keyed-Column, keyed-Literal}
+use Rattle.resolve_expressions.proofs.GroupForms.{keyed-Column, keyed-Literal}
 use Rattle.resolve_expressions.proofs.SameFacts.{same_is_equal}
 use Rattle.resolve_expressions.proofs.TypedFacts.{get_behind, get_more, same_ok}
 use Rattle.resolve_relations.specs.declared.found.FoundOf.{FoundOf}
 use Rattle.resolve_relations.specs.Columns.{expr_of, exprs_of, made_columns, numbered, numbered_from}
 use Rattle.resolve_relations.specs.Making.{aggregate_rule, aggregated, aggregation, grouping_only, key_value, project_rule}
 use Rattle.resolve_sound.specs.Laws.{AggregatesAre}
-use Rattle.resolve_sound.specs.Sound.{FitsNulls, IsNullSafe, IsSoundFound, flags, kinds}
+use Rattle.resolve_sound.specs.Sound.{FitsNulls, IsNullSafe, flags, kinds}
 use Rattle.resolve_sound.proofs.Chains.{all_hold_of, either_way, then_holds}
 use Rattle.resolve_sound.proofs.CountValues.{count_may}
 use Rattle.resolve_sound.proofs.JoinedRelations.{at_place}
 use Rattle.resolve_sound.proofs.KeptCalls.{Grows, calls_grow, grows_more, grows_none}
 use Rattle.resolve_sound.proofs.MadeRelations.{aggregates_sound}
 use Rattle.resolve_sound.proofs.NodeRows.{all_mapped, each_group}
-use Rattle.resolve_sound.proofs.NullFacts.{Gives, May, flags_of_made, image_may, item_flags}
+use Rattle.resolve_sound.proofs.NullFacts.{Gives, May, flags_of_made, image_may}
 use Rattle.resolve_sound.proofs.NullItems.{expr_tells, literal_may, null_Call, null_Cast, null_Column, null_Literal, typed_give}
 use Rattle.resolve_sound.proofs.NullRelations.{TellsNulls, plain_tells, safe_answer, told}
 use Rattle.resolve_sound.proofs.PlainItems.{keys_hold, keys_over, star_holds}

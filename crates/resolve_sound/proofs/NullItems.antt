@@ -1,12 +1,10 @@
 -- Items without aggregate calls give no null but where they may.
-use Rattle.std.proofs.Common.{◌≡◌, ◌≢◌, ℕ, zero, suc, Bool, true, false, List, [], ◌∷◌, ◌++◌, map, length, refl, sym, ap, ◌∙◌, subst, Option, Some, None}
-use Rattle.std.specs.Prelude.{◌||◌, not, All, IfOk, IsTrue, Ok, nat_eq, option_map, slice_get}
+use Rattle.std.proofs.Common.{◌≡◌, ℕ, Bool, true, false, List, [], length, refl, sym, ap, ◌∙◌, subst, Option, Some, None}
+use Rattle.std.specs.Prelude.{◌||◌, not, IsTrue, nat_eq, option_map, slice_get}
 use Rattle.std.proofs.lemmas.Option.{slice_get-map}
-use Rattle.std.specs.List.{AllByRecursion}
 use Rattle.cn_types.specs.declared.row.Row.{Row}
 use Rattle.cn_types.specs.declared.value.DataType.{DataType}
 use Rattle.cn_types.specs.declared.value.Value.{Value}
-use Rattle.expression_messages.specs.declared.expression.Expr.{Expr}
 use Rattle.plan_model.specs.declared.expression.TypedExpr.{TypedExpr}
 use Rattle.plan_model.specs.declared.expression.TypedExpr.TheOpen as O
 use Rattle.plan_model.specs.declared.expression.TypedExpr.TheVariants as T
@@ -21,8 +19,7 @@ use Rattle.resolve_names.specs.declared.scope.ColumnOf.{ColumnOf}
 use Rattle.resolve_names.specs.declared.scope.Tagged.{Tagged}
 use Rattle.resolve_names.specs.Checks.{Checked, ◌>>=◌, or_refused}
 use Rattle.resolve_functions.specs.Arguments.{untyped}
-use Rattle.resolve_expressions.specs.declared.item.Item.{Item}
-use Rattle.resolve_expressions.specs.Items.{column_is_nullable, form_is_nullable, is_nullable, typed_item}
+use Rattle.resolve_expressions.specs.Items.{column_is_nullable, form_is_nullable, is_nullable}
 use Rattle.resolve_expressions.specs.Outputs.{value_of}
 use Rattle.resolve_expressions.specs.Stars.{column_item}
 use Rattle.resolve_expressions.specs.Typings.{typed_over}

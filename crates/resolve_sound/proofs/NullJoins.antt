@@ -18,23 +18,23 @@ use Rattle.plan_model.specs.NodeTypes.{types}
 use Rattle.plan_model.specs.Truth.{is_present}
 use Rattle.plan_model.proofs.Multisets.{AllByRecursion-filter}
 use Rattle.resolve_names.specs.declared.scope.ColumnOf.{ColumnOf}
-use Rattle.resolve_names.specs.Checks.{Checked, or_refused}
+use Rattle.resolve_names.specs.Checks.{◌>>=◌, or_refused}
 use Rattle.resolve_types.specs.Calls.{unless}
 use Rattle.resolve_expressions.specs.declared.item.Item.{Item}
 use Rattle.resolve_expressions.specs.Grouping.{all_checked}
 use Rattle.resolve_expressions.specs.Outputs.{condition_of}
 use Rattle.resolve_expressions.specs.Stars.{any_column, items_where}
 use Rattle.resolve_relations.specs.declared.found.FoundOf.{FoundOf}
-use Rattle.resolve_relations.specs.Columns.{column_limit}
+use Rattle.resolve_relations.specs.Columns.{column_limit, projection}
 use Rattle.resolve_joins.specs.declared.keys.KeyPair.{KeyPair}
-use Rattle.resolve_joins.specs.Joins.{clash, is_there, join_rule, joined, joined_columns, keyed, kind_numbered, kind_without, on_rule, perhaps_null, side_columns, using_rule}
+use Rattle.resolve_joins.specs.Joins.{clash, is_there, join_rule, joined, joined_columns, kind_numbered, kind_without, on_rule, side_columns, using_rule}
 use Rattle.resolve_joins.specs.Keys.{all_equal, is_rest, key_item, key_pair, merged, using_items}
 use Rattle.resolve_sound.specs.PairLaws.{JoinsAre}
-use Rattle.resolve_sound.specs.Sound.{FitsNulls, HaveNullsWithin, IsNullSafe, IsSoundFound, flags}
+use Rattle.resolve_sound.specs.Sound.{FitsNulls, HaveNullsWithin, IsNullSafe, flags}
 use Rattle.resolve_sound.proofs.Chains.{either_way, then_holds}
 use Rattle.resolve_sound.proofs.JoinedRelations.{all_given, at_place, joins_sound}
-use Rattle.resolve_sound.proofs.NodeRows.{Each, all_flat, all_joined, all_mapped, each_pair}
-use Rattle.resolve_sound.proofs.NullFacts.{Gives, May}
+use Rattle.resolve_sound.proofs.NodeRows.{all_flat, all_joined, all_mapped, each_pair}
+use Rattle.resolve_sound.proofs.NullFacts.{Gives}
 use Rattle.resolve_sound.proofs.NullItems.{columns_give}
 use Rattle.resolve_sound.proofs.NullRelations.{TellsNulls, projection_tells, safe_answer, told}
 use Rattle.resolve_sound.proofs.Places.{all_passing}
@@ -194,10 +194,12 @@ module _ (exact : Bool) (fresh : ℕ → ℕ) (left right : FoundOf ℕ) (on_lef
     abbrev its_items : List Item
     its_items = items_where any_column 0 both.columns
 
-    keyed_tells : IfOk (keyed nat_eq exact fresh kind width both keys) TellsNulls
-    keyed_tells = then_holds TellsNulls (column_limit (length (using_items kind width keys its_items))) _ (λ u is.
-        projection_tells both (joined_tells left right on_left on_right (all_equal width keys) kind) fresh
-        (using_items kind width keys its_items)
+    abbrev made : List Item
+    made = using_items kind width keys its_items
+
+    keyed_tells : IfOk (column_limit (length made) >>= λ counted. Ok (projection fresh both made)) TellsNulls
+    keyed_tells = then_holds TellsNulls (column_limit (length made)) _ (λ u is.
+        projection_tells both (joined_tells left right on_left on_right (all_equal width keys) kind) fresh made
         (using_give both.columns width its_items (all_passing (Gives both.columns) any_column both.columns
         (columns_give both.columns)) kind keys))
 

@@ -1,18 +1,16 @@
 -- Which relations give no null but where their columns may have one: those of one input, without groups.
-use Rattle.std.proofs.Common.{◌≡◌, ℕ, ℤ, Bool, true, false, cond, List, [], ◌∷◌, ◌++◌, map, length, refl, sym, ap, ◌∙◌, subst, suc, Option, Some, None}
-use Rattle.std.specs.Prelude.{◌||◌, ◌==◌, pos, nat_eq, not, All, IfOk, IfSome, Ok, Err, codes, find, filter, option_map}
+use Rattle.std.proofs.Common.{◌≡◌, ℕ, ℤ, Bool, true, false, cond, List, [], ◌∷◌, ◌++◌, map, length, refl, sym, ap, subst, suc, Option, Some, None}
+use Rattle.std.specs.Prelude.{pos, nat_eq, not, All, IfOk, Ok, Err, codes, find, filter, option_map}
 use Rattle.std.specs.List.{AllByRecursion}
 use Rattle.std.specs.Ordering.{int_eq}
 use Rattle.std.proofs.lemmas.List.Elements.{All-from_recursion, recursion_from_All}
 use Rattle.std.proofs.lemmas.Result.{IfOk-at_ok}
 use Rattle.cn_types.specs.declared.row.Row.{Row}
-use Rattle.cn_types.specs.declared.value.DataType.{DataType}
 use Rattle.table_store.specs.declared.tables.NamedTable.{NamedTable}
 use Rattle.table_store.specs.Names.{has_name}
 use Rattle.expression_messages.specs.declared.expression.Alias.{Alias}
 use Rattle.expression_messages.specs.declared.expression.SortOrder.{SortOrder}
 use Rattle.expression_messages.specs.declared.expression.Expr.{Expr}
-use Rattle.plan_model.specs.declared.node.Node.{Node}
 use Rattle.plan_model.specs.declared.node.Node.TheVariants as V
 use Rattle.plan_model.specs.Selections.{image}
 use Rattle.resolve_names.specs.declared.scope.ColumnOf.{ColumnOf}
@@ -21,13 +19,13 @@ use Rattle.resolve_types.specs.Calls.{unless}
 use Rattle.resolve_expressions.specs.declared.item.Item.{Item}
 use Rattle.resolve_expressions.specs.Grouping.{all_checked}
 use Rattle.resolve_expressions.specs.Outputs.{added_items, condition_of, projected, sort_key_of, sort_keys_of}
-use Rattle.resolve_expressions.specs.Stars.{column_item, item_where, items_where}
+use Rattle.resolve_expressions.specs.Stars.{item_where, items_where}
 use Rattle.resolve_relations.specs.declared.found.FoundOf.{FoundOf}
 use Rattle.resolve_relations.specs.Columns.{column_limit, exprs_of, numbered_from, projection, remade}
 use Rattle.resolve_relations.specs.Keeping.{alias_rule, deduplicate_rule, filter_rule, key_places, limit_rule, offset_rule, qualified, row_number, sort_rule}
 use Rattle.resolve_relations.specs.Making.{drop_rule, is_kept, item_name, kept, later_twin, meant, new_column, new_name, no_twin, plain_projection, range_rule, read_rule, rename_column, renamed_rule, renamed_to, same_name, table_column, table_name, to_df_rule, with_added, with_columns_rule}
 use Rattle.resolve_sound.specs.Laws.{FewerColumnsAre, KeptRelationsAre, LeavesAre, ProjectionsAre, RenamedRelationsAre, TestedRelationsAre}
-use Rattle.resolve_sound.specs.Sound.{FitsNulls, HaveFittingRows, HaveSafeRows, IsNullSafe, IsSoundFound, flags, schema_flags}
+use Rattle.resolve_sound.specs.Sound.{FitsNulls, HaveSafeRows, IsNullSafe, IsSoundFound, flags, schema_flags}
 use Rattle.resolve_sound.proofs.Chains.{found_holds, then_holds, there}
 use Rattle.resolve_sound.proofs.KeptRelations.{kept_are_sound, leaves_are_sound, renamed_are_sound, tested_are_sound}
 use Rattle.resolve_sound.proofs.MadeRelations.{fewer_sound, projections_sound, with_added_hold}

@@ -1,33 +1,29 @@
 -- Set operations give no null but where their columns may have one.
-use Rattle.std.proofs.Common.{◌≡◌, ℕ, ℤ, zero, suc, ◌+◌, Bool, true, false, List, [], ◌∷◌, ◌++◌, map, length, refl, sym, ap, ◌∙◌, subst, arith, append_assoc, Option, Some, None}
-use Rattle.std.specs.Prelude.{◌||◌, ◌&&◌, not, if◌then◌else◌, All, IfOk, IfSome, IsTrue, Ok, slice_get, unwrap_or}
+use Rattle.std.proofs.Common.{◌≡◌, ℕ, ℤ, suc, Bool, true, false, List, [], ◌∷◌, ◌++◌, map, length, refl, sym, ap, ◌∙◌, subst, arith, append_assoc, Option, Some, None}
+use Rattle.std.specs.Prelude.{◌||◌, ◌&&◌, not, if◌then◌else◌, All, IfOk, IsTrue, slice_get, unwrap_or}
 use Rattle.std.specs.List.{AllByRecursion}
-use Rattle.std.proofs.lemmas.List.{append-nil, length_push}
-use Rattle.std.proofs.lemmas.List.Elements.{All-head, All-tail, All-weaker, recursion_from_All}
+use Rattle.std.proofs.lemmas.List.{length_push}
+use Rattle.std.proofs.lemmas.List.Elements.{All-head, All-tail, recursion_from_All}
 use Rattle.std.proofs.lemmas.Result.{IfOk-at_ok}
 use Rattle.cn_types.specs.declared.row.Row.{Row}
 use Rattle.cn_types.specs.declared.value.DataType.{DataType}
 use Rattle.cn_types.specs.declared.value.Value.{Value}
 use Rattle.cn_types.specs.declared.value.Value.TheVariants.{Null}
-use Rattle.cn_types.specs.Fit.{FitsTypes, HasType, value_at as value_in}
+use Rattle.cn_types.specs.Fit.{FitsTypes, HasType}
 use Rattle.plan_model.specs.declared.expression.TypedExpr.{TypedExpr}
 use Rattle.plan_model.specs.declared.expression.TypedExpr.TheVariants as T
-use Rattle.plan_model.specs.declared.node.Node.{Node}
 use Rattle.plan_model.specs.declared.node.Node.TheVariants as V
 use Rattle.plan_model.specs.declared.node.SetKind.{SetKind}
-use Rattle.plan_model.specs.Casts.{cast_to}
 use Rattle.plan_model.specs.FunctionTypes.{can_cast, same_kind}
-use Rattle.plan_model.specs.NodeTypes.{kind_of, types}
 use Rattle.plan_model.specs.Selections.{image}
 use Rattle.plan_model.specs.Truth.{is_present}
 use Rattle.plan_model.specs.Val.{val}
-use Rattle.plan_model.specs.WellFormed.{IsOver}
 use Rattle.plan_model.proofs.ExpressionFacts.{kind_of-Column}
 use Rattle.plan_model.proofs.Fitting.{rows_have_the_types}
 use Rattle.plan_model.proofs.TypedValues.{values_typed}
 use Rattle.plan_model.proofs.ValueFacts.{values_of_forms}
 use Rattle.resolve_names.specs.declared.scope.ColumnOf.{ColumnOf}
-use Rattle.resolve_names.specs.Checks.{Checked, or_refused}
+use Rattle.resolve_names.specs.Checks.{or_refused}
 use Rattle.resolve_types.specs.Calls.{unless}
 use Rattle.resolve_expressions.specs.Same.{all_same, same_expr}
 use Rattle.resolve_expressions.proofs.TypedFacts.{get_behind}
@@ -37,7 +33,7 @@ use Rattle.resolve_sets.specs.declared.aligned.Aligned.{Aligned}
 use Rattle.resolve_sets.specs.Aligning.{aligned, column_at}
 use Rattle.resolve_sets.specs.Sets.{aligned_column, as_kind, combined, is_union, is_whole, kind_numbered, left_value, own_value, places_of, right_value, set_column, set_rule, side, side_value, value_at}
 use Rattle.resolve_sound.specs.PairLaws.{SetOperationsAre}
-use Rattle.resolve_sound.specs.Sound.{FitsNulls, HaveNullsWithin, IsNullSafe, IsSoundFound, flags, kinds}
+use Rattle.resolve_sound.specs.Sound.{FitsNulls, HaveNullsWithin, IsNullSafe, flags, kinds}
 use Rattle.resolve_sound.proofs.Chains.{then_holds}
 use Rattle.resolve_sound.proofs.NodeRows.{Each, each_image, each_of_both}
 use Rattle.resolve_sound.proofs.NullFacts.{May, column_may, flags_numbered}

@@ -1,23 +1,21 @@
 -- Columns at their places, and the types of lists of columns.
-use Rattle.std.proofs.Common.{◌≡◌, ℕ, zero, suc, ◌+◌, ◌<◌, Bool, true, false, cond, List, [], ◌∷◌, ◌++◌, map, length, get_or, refl, sym, ap, ◌∙◌, subst, arith, append_assoc, Option, Some, None}
-use Rattle.std.specs.Prelude.{All, filter, IfOk, IfSome, Ok, nat_lt, count_by, position, slice_get}
-use Rattle.std.proofs.lemmas.List.Elements.{All-append, All-cons, All-head, All-nil, All-tail}
+use Rattle.std.proofs.Common.{◌≡◌, ℕ, zero, suc, ◌+◌, ◌<◌, Bool, true, false, cond, List, [], ◌∷◌, ◌++◌, map, length, refl, sym, ap, ◌∙◌, subst, arith, append_assoc, Option, Some, None}
+use Rattle.std.specs.Prelude.{All, filter, IfOk, nat_lt, count_by, position, slice_get}
+use Rattle.std.proofs.lemmas.List.Elements.{All-append, All-cons, All-nil}
 use Rattle.std.proofs.lemmas.List.{length_push}
 use Rattle.std.proofs.lemmas.List.Quantifiers.{position-Some}
 use Rattle.cn_types.specs.declared.value.DataType.{DataType}
-use Rattle.plan_model.specs.declared.expression.TypedExpr.{TypedExpr}
 use Rattle.plan_model.specs.declared.expression.TypedExpr.TheVariants as V
 use Rattle.plan_model.specs.NodeTypes.{kind_of, kinds_of}
 use Rattle.plan_model.specs.WellFormed.{IsFormOver, IsOver}
 use Rattle.plan_model.proofs.ExpressionFacts.{kind_of-Column, made-Column}
 use Rattle.resolve_names.specs.declared.scope.ColumnOf.{ColumnOf}
-use Rattle.resolve_names.specs.Checks.{Checked, or_refused, refused}
+use Rattle.resolve_names.specs.Checks.{or_refused, refused}
 use Rattle.resolve_names.specs.Refusals.{Refusal}
 use Rattle.resolve_names.specs.Scopes.{named_place, only_place}
 use Rattle.resolve_expressions.specs.declared.item.Item.{Item}
 use Rattle.resolve_expressions.specs.Stars.{column_item, item_where, items_where}
-use Rattle.resolve_expressions.proofs.TypedFacts.{get_behind}
-use Rattle.resolve_relations.specs.Columns.{expr_of, exprs_of, fresh_column, made_by, made_column, numbered_from}
+use Rattle.resolve_relations.specs.Columns.{exprs_of, made_by, made_column, numbered_from}
 use Rattle.resolve_relations.specs.Keeping.{its_place, plain_place}
 use Rattle.resolve_sound.specs.Sound.{kinds}
 use Rattle.resolve_sound.proofs.Chains.{either_way}

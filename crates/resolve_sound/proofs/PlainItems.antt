@@ -1,13 +1,11 @@
 -- Items without aggregate calls are over the columns alone.
-use Rattle.std.proofs.Common.{◌≡◌, ℕ, Bool, true, false, List, [], ◌∷◌, ◌++◌, map, refl, ap, ◌∙◌, Option, Some, None}
-use Rattle.std.specs.Prelude.{All, IfOk, Ok, nat_eq}
+use Rattle.std.proofs.Common.{rules, ℕ, Bool, true, false, List, [], ◌∷◌, ap, ◌∙◌, Option, Some, None}
+use Rattle.std.specs.Prelude.{All, IfOk, nat_eq}
 use Rattle.std.proofs.lemmas.List.Elements.{All-append, All-cons, All-nil}
 use Rattle.std.proofs.lemmas.Result.{IfOk-at_ok}
 use Rattle.expression_messages.specs.declared.expression.Alias.{Alias}
 use Rattle.expression_messages.specs.declared.expression.UnresolvedStar.{UnresolvedStar}
 use Rattle.expression_messages.specs.declared.expression.Expr.{Expr}
-use Rattle.plan_model.specs.declared.node.AggregateCall.{AggregateCall}
-use Rattle.plan_model.specs.WellFormed.{IsOver}
 use Rattle.resolve_names.specs.declared.scope.ColumnOf.{ColumnOf}
 use Rattle.resolve_names.specs.declared.scope.Tagged.{Tagged}
 use Rattle.resolve_names.specs.Checks.{Checked, ◌>>=◌, or_refused}
@@ -16,7 +14,7 @@ use Rattle.resolve_functions.specs.Arguments.{untyped}
 use Rattle.resolve_expressions.specs.declared.item.Item.{Item}
 use Rattle.resolve_expressions.specs.Items.{Itemized, alias_of, attribute_title, item_by, item_of, one_name, typed_item}
 use Rattle.resolve_expressions.specs.Outputs.{added_item, added_items, key_items, plain_item, projected, projected_by, star_of, value_of}
-use Rattle.resolve_expressions.specs.Stars.{any_column, column_item, has_qualifier, items_where, qualified, some_items, star_items, target_name}
+use Rattle.resolve_expressions.specs.Stars.{any_column, column_item, has_qualifier, items_where, some_items, star_items, target_name}
 use Rattle.resolve_expressions.specs.Titles.{title}
 use Rattle.resolve_expressions.specs.Typings.{typed_over}
 use Rattle.resolve_expressions.proofs.TypedFacts.{values_are_well_formed}
@@ -39,12 +37,16 @@ module _ (exact : Bool) (columns : List (ColumnOf ℕ)) (relations : List (Tagge
   some_hold identifier (item ∷ items) h = h
 
   module _ (as_they_are : OfEach columns P column_item) where
+    qualified_hold : (found : Checked (List (List ℕ))) (identifier : List ℕ) →
+        IfOk (found >>= λ parts. some_items identifier (items_where (has_qualifier exact parts) 0 columns)) (All P)
+    qualified_hold found identifier = then_holds (All P) found _ (λ parts is.
+        some_hold identifier (items_where (has_qualifier exact parts) 0 columns)
+        (all_passing P (has_qualifier exact parts) columns as_they_are))
+
     pub star_holds : (target : Option (List ℕ)) → IfOk (star_items exact columns target) (All P)
     unfolding star_items
     star_holds None = all_passing P any_column columns as_they_are
-    star_holds (Some target) = then_holds (All P) (parts_of (target_name target)) _ (λ parts is.
-        some_hold (target_name target) (items_where (has_qualifier exact parts) 0 columns)
-        (all_passing P (has_qualifier exact parts) columns as_they_are))
+    star_holds (Some target) = search (rules, qualified_hold)
 
   module _ (typed : TypedHold) where
     by_holds : (alias : Option (Alias Expr)) (expr : Expr) → IfOk (item_by nat_eq exact columns relations alias expr false []) Here

@@ -1,8 +1,7 @@
 -- Set operations.
-use Rattle.std.proofs.Common.{◌≡◌, ℕ, ℤ, zero, suc, ◌+◌, Bool, true, false, List, [], ◌∷◌, ◌++◌, map, length, refl, sym, ap, ◌∙◌, subst, arith, append_assoc, Option, Some, None}
-use Rattle.std.specs.Prelude.{All, IfOk, IfSome, IsTrue, Ok, ◌&&◌, not, if◌then◌else◌, option_map, slice_get}
+use Rattle.std.proofs.Common.{◌≡◌, ℕ, ℤ, suc, Bool, true, false, List, [], ◌∷◌, map, refl, sym, ap, ◌∙◌, subst, Option, Some, None}
+use Rattle.std.specs.Prelude.{All, IfOk, IfSome, ◌&&◌, not, if◌then◌else◌, option_map, slice_get}
 use Rattle.std.proofs.lemmas.Bool.{and_parts}
-use Rattle.std.proofs.lemmas.List.{length_push}
 use Rattle.std.proofs.lemmas.List.Elements.{All-cons, All-head, All-map, All-nil, All-tail, All-weaker}
 use Rattle.std.proofs.lemmas.Option.{slice_get-map}
 use Rattle.std.proofs.lemmas.Result.{IfOk-at_ok}
@@ -23,7 +22,7 @@ use Rattle.plan_model.proofs.NodeFacts.{made-Project, made-SetOp}
 use Rattle.plan_model.proofs.NullFacts.{same_kind-is}
 use Rattle.plan_model.proofs.TypesFacts.{types-Project, types-SetOp}
 use Rattle.resolve_names.specs.declared.scope.ColumnOf.{ColumnOf}
-use Rattle.resolve_names.specs.Checks.{Checked, ◌>>=◌, or_refused}
+use Rattle.resolve_names.specs.Checks.{Checked, or_refused}
 use Rattle.resolve_types.specs.Calls.{unless}
 use Rattle.resolve_expressions.specs.Grouping.{all_checked}
 use Rattle.resolve_expressions.specs.Same.{all_same, same_expr}

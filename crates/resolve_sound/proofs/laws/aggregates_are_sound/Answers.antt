@@ -1,4 +1,3 @@
-use Rattle.std.specs.Prelude.{ℕ}
 use Rattle.resolve_sound.proofs.MadeRelations.{aggregates_sound}
 use Rattle.resolve_sound.proofs.laws.aggregates_are_sound.Goals as goal
 

@@ -1,4 +1,3 @@
-use Rattle.std.specs.Prelude.{ℕ}
 use Rattle.resolve_sound.proofs.MadeRelations.{projections_sound}
 use Rattle.resolve_sound.proofs.laws.projections_are_sound.Goals as goal
 

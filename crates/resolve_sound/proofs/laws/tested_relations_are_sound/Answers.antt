@@ -1,4 +1,3 @@
-use Rattle.std.specs.Prelude.{ℕ}
 use Rattle.resolve_sound.proofs.KeptRelations.{tested_are_sound}
 use Rattle.resolve_sound.proofs.laws.tested_relations_are_sound.Goals as goal
 
