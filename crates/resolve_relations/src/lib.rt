@@ -13,6 +13,8 @@ mod naming;
 mod options;
 mod projecting;
 mod testing;
+#[cfg(test)]
+mod tests;
 
 pub use adding::with_columns;
 pub use aggregating::{aggregate, project};
