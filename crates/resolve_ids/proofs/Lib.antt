@@ -1,0 +1,6 @@
+-- Facts for the laws.
+pub mod Expressions
+pub mod Keeping
+pub mod Places
+pub mod Searches
+pub mod Steps

@@ -1,0 +1,3 @@
+-- Relations under other ids of columns, and that the rules of relations mean the same there.
+pub mod Laws
+pub mod Renaming
