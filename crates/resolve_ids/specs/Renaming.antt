@@ -3,8 +3,9 @@ use Rattle.std.specs.Prelude.{◌≡◌, ℕ, ◌<◌, ◌≤◌, Bool, List, ma
 use Rattle.plan_model.specs.declared.node.Node.{Node}
 use Rattle.resolve_names.specs.declared.scope.ColumnOf.{ColumnOf}
 use Rattle.resolve_names.specs.declared.scope.Tagged.{Tagged}
-use Rattle.resolve_names.specs.Checks.{Checked}
+use Rattle.resolve_names.specs.Checks.{Checked, ◌>>=◌}
 use Rattle.resolve_relations.specs.declared.found.FoundOf.{FoundOf}
+use Rattle.resolve_relations.specs.Columns.{within_limits}
 
 -- the same column under another id
 abbrev pub renamed_column : {I J : Type 0} → (I → J) → ColumnOf I → ColumnOf J
@@ -49,3 +50,7 @@ Alike name (Ok found) (Ok other) = FoundAlike name found other
 Alike name (Ok found) (Err stop_too) = ⊥
 Alike name (Err stop) (Ok other) = ⊥
 Alike name (Err stop) (Err stop_too) = stop_too ≡ stop
+
+-- the relation, where its columns are within limits
+abbrev pub limited : {I : Type 0} → Checked (FoundOf I) → Checked (FoundOf I)
+limited answer = answer >>= λ found. within_limits found.columns >>= λ fine. Ok found

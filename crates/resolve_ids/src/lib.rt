@@ -3,4 +3,4 @@
 
 mod laws;
 
-pub use laws::rows_are_kept_alike;
+pub use laws::{columns_are_made_alike, columns_are_named_alike, leaves_are_alike, limits_judge_alike, rows_are_kept_alike};
