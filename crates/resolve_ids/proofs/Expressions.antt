@@ -1,5 +1,5 @@
 -- Expressions have the same types, names and errors under other ids; so have items, keys, conditions and groups, in which no id stands.
-use Rattle.std.proofs.Common.{◌≡◌, ℕ, ◌-◌, Bool, true, false, List, [], ◌∷◌, ◌++◌, map, length, refl, sym, ap, ◌∙◌, Option, Some, None}
+use Rattle.std.proofs.Common.{◌≡◌, ℕ, ◌-◌, Bool, true, false, List, [], ◌∷◌, ◌++◌, length, refl, ap, ◌∙◌, Option, Some, None}
 use Rattle.std.specs.Prelude.{Ok, Err, if◌then◌else◌, slice_get, option_map, unwrap_or}
 use Rattle.std.proofs.Math.Path.{fun_ext}
 use Rattle.cn_types.specs.declared.value.DataType.{DataType}
@@ -18,16 +18,14 @@ use Rattle.plan_model.specs.declared.expression.TypedExpr.TheViews.{out-TypedExp
 use Rattle.plan_model.specs.declared.expression.TypedExpr.TheVariants as typed
 use Rattle.plan_model.specs.declared.expression.TypedExpr.TheFolds.{fold-TypedExpr}
 use Rattle.plan_model.specs.declared.node.AggregateCall.{AggregateCall}
-use Rattle.plan_model.specs.declared.node.SortKey.{SortKey}
 use Rattle.resolve_names.specs.declared.scope.ColumnOf.{ColumnOf}
 use Rattle.resolve_names.specs.declared.scope.Tagged.{Tagged}
-use Rattle.resolve_names.specs.Checks.{Checked, ◌>>=◌, or_refused, refused}
+use Rattle.resolve_names.specs.Checks.{Checked, ◌>>=◌, or_refused}
 use Rattle.resolve_names.specs.Scopes.{attribute_at}
 use Rattle.resolve_functions.specs.Arguments.{untyped}
-use Rattle.resolve_types.specs.Leaves.{typed_attribute}
 use Rattle.resolve_expressions.specs.declared.item.Item.{Item}
-use Rattle.resolve_expressions.specs.Grouping.{Regrouped, all_checked, by_key, regrouped, regrouped_item, regrouped_step, ungrouped}
-use Rattle.resolve_expressions.specs.Items.{Itemized, alias_of, attribute_title, bare_column, call_is_nullable, column_is_nullable, form_is_nullable, is_nullable, item_by, item_of, itemized, name_at, name_in, one_name, source_of, typed_item}
+use Rattle.resolve_expressions.specs.Grouping.{Regrouped, by_key, regrouped, regrouped_item, regrouped_step, ungrouped}
+use Rattle.resolve_expressions.specs.Items.{Itemized, alias_of, attribute_title, bare_column, call_is_nullable, column_is_nullable, form_is_nullable, is_nullable, item_by, item_of, name_at, name_in, one_name, source_of, typed_item}
 use Rattle.resolve_expressions.specs.Outputs.{Grouped, added_item, added_items, boolean_only, condition_of, group, grouped, grouped_by, grouped_item, grouped_star, has_nulls_last, is_descending, key_items, plain_item, projected, projected_by, regrouped_items, sort_key_of, sort_keys_of, star_meant, star_of, value_of}
 use Rattle.resolve_expressions.specs.Same.{same_expr}
 use Rattle.resolve_expressions.specs.Stars.{star_items}

@@ -1,21 +1,21 @@
 -- Rules that keep the columns of their input answer alike under other ids.
-use Rattle.std.proofs.Common.{◌≡◌, ℕ, ℤ, Bool, List, [], ◌∷◌, map, length, refl, sym, ap, ◌∙◌, Option, Some, None, ◌||◌, ◌==◌}
-use Rattle.std.specs.Prelude.{Ok, Err, if◌then◌else◌, codes}
+use Rattle.std.proofs.Common.{◌≡◌, ℕ, ℤ, Bool, List, [], ◌∷◌, map, length, refl, sym, ap, ◌∙◌, Some, None, ◌||◌, ◌==◌}
+use Rattle.std.specs.Prelude.{Ok, if◌then◌else◌, codes}
 use Rattle.expression_messages.specs.declared.expression.SortOrder.{SortOrder}
 use Rattle.expression_messages.specs.declared.expression.Expr.{Expr}
 use Rattle.plan_model.specs.declared.node.Node.TheVariants as node
 use Rattle.resolve_names.specs.declared.scope.ColumnOf.{ColumnOf}
-use Rattle.resolve_names.specs.Checks.{Checked, ◌>>=◌}
+use Rattle.resolve_names.specs.Checks.{Checked}
 use Rattle.resolve_expressions.specs.Grouping.{all_checked}
 use Rattle.resolve_expressions.specs.Outputs.{condition_of, sort_keys_of}
 use Rattle.resolve_relations.specs.declared.found.FoundOf.{FoundOf}
 use Rattle.resolve_relations.specs.Columns.{numbered, over, remade}
 use Rattle.resolve_relations.specs.Keeping.{alias_rule, deduplicate_rule, filter_rule, its_place, key_places, limit_rule, offset_rule, plain_place, qualified, row_number, sort_rule}
-use Rattle.resolve_ids.specs.Renaming.{Alike, FoundAlike, TellsApart, renamed, renamed_column, renamed_columns}
+use Rattle.resolve_ids.specs.Renaming.{Alike, TellsApart, renamed, renamed_column, renamed_columns}
 use Rattle.resolve_ids.proofs.Expressions.{condition_renamed, sort_keys_renamed}
 use Rattle.resolve_ids.proofs.Places.{place_named}
 use Rattle.resolve_ids.proofs.Searches.{all-same, map-made, numbered-made}
-use Rattle.resolve_ids.proofs.Steps.{renamed_alike, same_alike, then_alike}
+use Rattle.resolve_ids.proofs.Steps.{renamed_alike, then_alike}
 
 module _ {I J : Type 0} (name : I → J) where
   pub limit_alike : (input : FoundOf I) (number : ℤ) → Alike name (limit_rule input number) (limit_rule (renamed name input) number)

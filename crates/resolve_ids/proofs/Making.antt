@@ -1,6 +1,6 @@
 -- Rules without an input, and those that make other columns of one, answer alike under other ids.
-use Rattle.std.proofs.Common.{◌≡◌, ◌≢◌, ℕ, ℤ, pos, ◌<◌, ◌≤◌, ◌⊎◌, inl, inr, suc, Bool, true, false, List, [], ◌∷◌, ◌++◌, map, filter, find, length, refl, sym, ap, ◌∙◌, subst, Option, Some, None, arith, not, lt-ltb, nat_lt, ltb}
-use Rattle.std.specs.Prelude.{Ok, Err, if◌then◌else◌, codes, slice_get, option_and_then, option_map, nat_eq, unwrap_or}
+use Rattle.std.proofs.Common.{◌≡◌, ℕ, ℤ, pos, ◌<◌, Bool, true, false, List, [], ◌∷◌, ◌++◌, filter, length, refl, sym, ap, ◌∙◌, subst, Option, Some, None, arith, not}
+use Rattle.std.specs.Prelude.{Ok, if◌then◌else◌, codes, slice_get, option_and_then, option_map, nat_eq}
 use Rattle.std.specs.Fmt.{signed_decimal}
 use Rattle.std.specs.Ordering.{int_eq}
 use Rattle.cn_types.specs.declared.value.DataType.{DataType}
@@ -8,14 +8,11 @@ use Rattle.resolve_names.specs.declared.error.ErrorName.TheVariants.{BadNumber}
 use Rattle.resolve_names.specs.Refusals.{refusal}
 use Rattle.std.specs.List.{list_any}
 use Rattle.std.proofs.Math.Path.{fun_ext}
-use Rattle.cn_types.specs.declared.schema.Field.{Field}
 use Rattle.table_store.specs.declared.tables.NamedTable.{NamedTable}
 use Rattle.table_store.specs.Names.{table_named}
 use Rattle.expression_messages.specs.declared.expression.Alias.{Alias}
 use Rattle.expression_messages.specs.declared.expression.Expr.{Expr}
 use Rattle.plain_relations.specs.declared.rename_entry.RenameEntry.{RenameEntry}
-use Rattle.plan_model.specs.declared.expression.TypedExpr.{TypedExpr}
-use Rattle.plan_model.specs.declared.node.AggregateCall.{AggregateCall}
 use Rattle.plan_model.specs.declared.node.Node.{Node}
 use Rattle.plan_model.specs.declared.node.Node.TheVariants as node
 use Rattle.plan_model.specs.NodeTypes.{kind_of}
@@ -28,7 +25,7 @@ use Rattle.resolve_expressions.specs.Outputs.{added_items, grouped, key_items, p
 use Rattle.resolve_relations.specs.declared.found.FoundOf.{FoundOf}
 use Rattle.resolve_relations.specs.Columns.{column_limit, exprs_of, fresh_column, made_by, made_column, made_columns, numbered, projection, remade}
 use Rattle.resolve_relations.specs.Making.{aggregate_rule, aggregated, columns_differ, grouping_only, has_name, is_new, item_name, key_value, later_twin, name_at, new_column, new_name, no_twin, plain_projection, project_rule, range_rule, read_rule, rename_column, renamed_rule, renamed_to, replaced, same_name, table_column, table_found, table_name, to_df_rule, with_added, with_columns_rule}
-use Rattle.resolve_ids.specs.Renaming.{Alike, DrawnAlike, FoundAlike, TellsApart, renamed, renamed_column, renamed_columns, renamed_relations}
+use Rattle.resolve_ids.specs.Renaming.{Alike, DrawnAlike, FoundAlike, TellsApart, renamed, renamed_column, renamed_columns}
 use Rattle.resolve_ids.proofs.Expressions.{all_added_renamed, grouped_renamed, keys_renamed, projected_renamed}
 use Rattle.resolve_ids.proofs.Places.{count_renamed, get_renamed}
 use Rattle.resolve_ids.proofs.Searches.{any-map, numbered-made}

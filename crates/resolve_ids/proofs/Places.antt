@@ -1,24 +1,20 @@
 -- Attributes, stars and plain names mean the same places under other ids.
-use Rattle.std.proofs.Common.{◌≡◌, ℕ, suc, ℤ, Bool, List, [], ◌∷◌, ◌++◌, map, length, refl, sym, ap, ◌∙◌, Option, Some, None}
-use Rattle.std.specs.Prelude.{Ok, Err, slice_get, option_map}
-use Rattle.std.specs.List.{list_any}
-use Rattle.std.proofs.Math.Path.{fun_ext}
+use Rattle.std.proofs.Common.{◌≡◌, ℕ, suc, ℤ, Bool, List, [], ◌∷◌, ◌++◌, length, refl, ap, ◌∙◌, Option, Some, None}
+use Rattle.std.specs.Prelude.{Ok, slice_get, option_map}
 use Rattle.std.proofs.lemmas.List.{length-map}
 use Rattle.std.proofs.lemmas.Option.{slice_get-map}
 use Rattle.expression_messages.specs.declared.expression.UnresolvedAttribute.{UnresolvedAttribute}
-use Rattle.plan_model.specs.declared.expression.TypedExpr.{TypedExpr}
 use Rattle.plan_model.specs.declared.expression.TypedExpr.TheVariants as typed
-use Rattle.resolve_names.specs.declared.error.ErrorName.TheVariants.{CannotResolvePlanId}
 use Rattle.resolve_names.specs.declared.scope.ColumnOf.{ColumnOf}
 use Rattle.resolve_names.specs.declared.scope.Tagged.{Tagged}
-use Rattle.resolve_names.specs.Checks.{Checked, ◌>>=◌, or_refused, refused}
-use Rattle.resolve_names.specs.Refusals.{Refusal, refusal}
+use Rattle.resolve_names.specs.Checks.{Checked, ◌>>=◌, or_refused}
+use Rattle.resolve_names.specs.Refusals.{Refusal}
 use Rattle.resolve_names.specs.Scopes.{ambiguous, attribute_at, bare_at, has_plan_id, is_named, named_column, named_place, parts_of, place_of_id, planned_at, relation_of, unresolved}
 use Rattle.resolve_types.specs.Leaves.{column_at, typed_attribute}
 use Rattle.resolve_expressions.specs.declared.item.Item.{Item}
-use Rattle.resolve_expressions.specs.Stars.{any_column, column_item, has_qualifier, item_where, items_where, qualified, some_items, star_items, target_name}
+use Rattle.resolve_expressions.specs.Stars.{any_column, has_qualifier, item_where, items_where, qualified, some_items, star_items, target_name}
 use Rattle.resolve_ids.specs.Renaming.{TellsApart, renamed_column, renamed_columns, renamed_relations, renamed_tagged}
-use Rattle.resolve_ids.proofs.Searches.{bind-made, bind-same, item-agree, made, only-item, place-agree}
+use Rattle.resolve_ids.proofs.Searches.{bind-made, bind-same, item-agree, made, place-agree}
 
 module _ {I J : Type 0} (name : I → J) where
   abbrev other : ColumnOf I → ColumnOf J

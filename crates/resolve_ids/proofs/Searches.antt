@@ -1,6 +1,6 @@
 -- What a search finds among items that were made of others is found among those by the test of what is made.
-use Rattle.std.proofs.Common.{◌≡◌, ℕ, zero, suc, ◌+◌, ◌++◌, ◌<◌, ◌≤◌, Bool, true, false, cond, not, ltb, List, [], ◌∷◌, map, length, refl, sym, ap, ◌∙◌, Option, Some, None, count_by, find, filter, position, arith, ◌||◌}
-use Rattle.std.specs.Prelude.{Ok, Err, if◌then◌else◌, nat_lt, slice_get, option_map}
+use Rattle.std.proofs.Common.{◌≡◌, ℕ, suc, ◌+◌, ◌<◌, ◌≤◌, Bool, true, false, cond, not, List, [], ◌∷◌, map, length, refl, sym, ap, ◌∙◌, Option, Some, None, count_by, find, filter, position, arith, ◌||◌}
+use Rattle.std.specs.Prelude.{Ok, Err, if◌then◌else◌, nat_lt, option_map}
 use Rattle.std.specs.List.{list_any, position_or_len}
 use Rattle.std.proofs.Math.Path.{fun_ext}
 use Rattle.std.proofs.lemmas.List.{length-map}
@@ -35,6 +35,21 @@ found-made f why None = refl
 
 pub all-same : {X Y : Type 0} (f g : X → Checked Y) → ((x : X) → f x ≡ g x) → (xs : List X) → all_checked (map f xs) ≡ all_checked (map g xs)
 all-same f g same xs = ap (λ h. all_checked (map h xs)) (fun_ext same)
+
+all_by : {X Y : Type 0} (f : X → Y) (first : Checked X) (rest : Checked (List X)) (rest_too : Checked (List Y)) → rest_too ≡ made (map f) rest →
+    (made f first >>= λ y. rest_too >>= λ ys. Ok (y ∷ ys)) ≡ made (map f) (first >>= λ x. rest >>= λ xs. Ok (x ∷ xs))
+all_by f (Err stop) rest rest_too same = refl
+all_by f (Ok x) rest rest_too same =
+    ap (λ (o : Checked (List _)). o >>= λ ys. Ok (f x ∷ ys)) same
+    ∙ bind-made (map f) rest (λ ys. Ok (f x ∷ ys))
+    ∙ sym (made-bind (map f) rest (λ xs. Ok (x ∷ xs)))
+
+pub all-made : {X Y Z : Type 0} (f : Y → Z) (check : X → Checked Y) (check_too : X → Checked Z) → ((x : X) → check_too x ≡ made f (check x)) →
+    (xs : List X) → all_checked (map check_too xs) ≡ made (map f) (all_checked (map check xs))
+all-made f check check_too agree [] = refl
+all-made f check check_too agree (x ∷ xs) =
+    ap (λ (o : Checked _). o >>= λ y. all_checked (map check_too xs) >>= λ ys. Ok (y ∷ ys)) (agree x)
+    ∙ all_by f (check x) (all_checked (map check xs)) (all_checked (map check_too xs)) (all-made f check check_too agree xs)
 
 -- ---- searches
 

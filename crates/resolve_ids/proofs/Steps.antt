@@ -1,5 +1,5 @@
 -- Answers that are alike, one step after another.
-use Rattle.std.proofs.Common.{◌≡◌, ℕ, ◌≤◌, ◌<◌, List, map, length, refl, sym, ap, ◌∙◌, subst, arith}
+use Rattle.std.proofs.Common.{◌≡◌, ℕ, ◌≤◌, ◌<◌, List, length, refl, sym, ap, ◌∙◌, subst, arith}
 use Rattle.std.specs.Prelude.{Ok, Err}
 use Rattle.std.proofs.lemmas.List.{length-map}
 use Rattle.plan_model.specs.declared.node.Node.{Node}
@@ -9,7 +9,7 @@ use Rattle.resolve_names.specs.Checks.{Checked, ◌>>=◌}
 use Rattle.resolve_relations.specs.declared.found.FoundOf.{FoundOf}
 use Rattle.resolve_relations.specs.Columns.{numbered}
 use Rattle.resolve_ids.specs.Renaming.{Alike, FoundAlike, renamed, renamed_column, renamed_columns, renamed_relations}
-use Rattle.resolve_ids.proofs.Searches.{length-numbered, numbered-below, numbered-made}
+use Rattle.resolve_ids.proofs.Searches.{bind-made, length-numbered, made, numbered-below, numbered-made}
 
 module _ {I J : Type 0} (name : I → J) where
   -- the very same under other ids
@@ -29,6 +29,14 @@ module _ {I J : Type 0} (name : I → J) where
       other ≡ answer → ((x : A) → Alike name (next x) (next_too x)) → Alike name (answer >>= next) (other >>= next_too)
   then_alike answer other next next_too same alike =
       subst (λ (o : Checked _). Alike name (answer >>= next) (o >>= next_too)) (sym same) (steps_alike answer next next_too alike)
+
+  -- the same where what is answered has other ids too
+  pub then_made_alike : {A B : Type 0} (f : A → B) (answer : Checked A) (other : Checked B) (next : A → Checked (FoundOf I)) (next_too : B → Checked (FoundOf J)) →
+      other ≡ made f answer → ((x : A) → Alike name (next x) (next_too (f x))) → Alike name (answer >>= next) (other >>= next_too)
+  then_made_alike f answer other next next_too same alike =
+      subst (λ (o : Checked (FoundOf J)). Alike name (answer >>= next) o)
+      (sym (ap (λ (o : Checked _). o >>= next_too) same ∙ bind-made f answer next_too))
+      (steps_alike answer next (λ x. next_too (f x)) alike)
 
   module _ (node : Node) (relations : List (Tagged I)) where
     abbrev with_columns : List (ColumnOf I) → FoundOf I

@@ -10,7 +10,7 @@ use Rattle.resolve_names.specs.Checks.{Checked, ◌>>=◌}
 use Rattle.resolve_relations.specs.declared.found.FoundOf.{FoundOf}
 use Rattle.resolve_relations.specs.Columns.{within_limits}
 use Rattle.resolve_relations.specs.Keeping.{alias_rule, deduplicate_rule, filter_rule, limit_rule, offset_rule, sort_rule}
-use Rattle.resolve_relations.specs.Making.{aggregate_rule, project_rule, range_rule, read_rule, renamed_rule, to_df_rule, with_columns_rule}
+use Rattle.resolve_relations.specs.Making.{aggregate_rule, drop_rule, project_rule, range_rule, read_rule, renamed_rule, to_df_rule, with_columns_rule}
 use Rattle.resolve_ids.specs.Renaming.{Alike, DrawnAlike, FoundAlike, TellsApart, limited, renamed, renamed_columns}
 
 -- columns are judged alike under other ids; and answers that are alike, once they are judged, are the very same under other ids
@@ -47,6 +47,12 @@ pub record NamedAlike (I J : Type 0) : Type 0 where
   pub with_columns_renamed : (name : I → J) (fresh : ℕ → I) (fresh_too : ℕ → J) → DrawnAlike name fresh fresh_too →
       (exact : Bool) (input : FoundOf I) (entries : List RenameEntry) →
       FoundAlike name (renamed_rule exact fresh input entries) (renamed_rule exact fresh_too (renamed name input) entries)
+
+-- `drop`
+pub record DroppedAlike (I J : Type 0) : Type 0 where
+  pub drop : (name : I → J) (same : I → I → Bool) (same_too : J → J → Bool) → TellsApart same same_too name →
+      (exact : Bool) (input : FoundOf I) (exprs : List Expr) (names : List (List ℕ)) →
+      Alike name (drop_rule same exact input exprs names) (drop_rule same_too exact (renamed name input) exprs names)
 
 -- rules that make columns of expressions
 pub record ColumnsMadeAlike (I J : Type 0) : Type 0 where

@@ -1,3 +1,4 @@
 -- Relations under other ids of columns, and that the rules of relations mean the same there.
 pub mod Laws
+pub mod PairLaws
 pub mod Renaming

@@ -1,6 +1,5 @@
 -- Columns and relations under other ids. `I` and `J` are the types of the ids.
 use Rattle.std.specs.Prelude.{◌≡◌, ℕ, ◌<◌, ◌≤◌, Bool, List, map, length, Ok, Err}
-use Rattle.plan_model.specs.declared.node.Node.{Node}
 use Rattle.resolve_names.specs.declared.scope.ColumnOf.{ColumnOf}
 use Rattle.resolve_names.specs.declared.scope.Tagged.{Tagged}
 use Rattle.resolve_names.specs.Checks.{Checked, ◌>>=◌}
