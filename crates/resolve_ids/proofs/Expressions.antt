@@ -52,9 +52,11 @@ module _ {I J : Type 0} (name : I → J) (columns : List (ColumnOf I)) where
   column_nullable calls place (Some column) = refl
   column_nullable calls place None = ap (λ (n : ℕ). call_is_nullable (slice_get calls (place - n))) (count_renamed name columns)
 
-  form_nullable : (calls : List AggregateCall) (form : TypedExpr-F TypedExpr) → form_is_nullable columns_too calls form ≡ form_is_nullable columns calls form
+  form_nullable : (calls : List AggregateCall) (form : TypedExpr-F TypedExpr) →
+      form_is_nullable columns_too calls form ≡ form_is_nullable columns calls form
   form_nullable calls (O.Column place kind) =
-      ap (λ (c : Option (ColumnOf J)). column_is_nullable columns_too calls place c) (get_renamed name columns place) ∙ column_nullable calls place (slice_get columns place)
+      ap (λ (c : Option (ColumnOf J)). column_is_nullable columns_too calls place c) (get_renamed name columns place)
+      ∙ column_nullable calls place (slice_get columns place)
   form_nullable calls (O.Literal value kind) = refl
   form_nullable calls (O.Call function arguments kind) = refl
   form_nullable calls (O.Cast child kind) = refl
@@ -63,13 +65,15 @@ module _ {I J : Type 0} (name : I → J) (columns : List (ColumnOf I)) where
   unfolding is_nullable
   nullable_renamed calls expr = form_nullable calls (out-TypedExpr expr)
 
-  name_of : (column : Option (ColumnOf I)) → unwrap_or (option_map (λ c. c.name) (option_map other column)) [] ≡ unwrap_or (option_map (λ c. c.name) column) []
+  name_of : (column : Option (ColumnOf I)) →
+      unwrap_or (option_map (λ c. c.name) (option_map other column)) [] ≡ unwrap_or (option_map (λ c. c.name) column) []
   name_of (Some column) = refl
   name_of None = refl
 
   name_place : (place : ℕ) → name_in columns_too place ≡ name_in columns place
   name_place place =
-      ap (λ (c : Option (ColumnOf J)). unwrap_or (option_map (λ c. c.name) c) []) (get_renamed name columns place) ∙ name_of (slice_get columns place)
+      ap (λ (c : Option (ColumnOf J)). unwrap_or (option_map (λ c. c.name) c) []) (get_renamed name columns place)
+      ∙ name_of (slice_get columns place)
 
   name_found : (place : Checked ℕ) → name_at columns_too place ≡ name_at columns place
   name_found (Ok place) = name_place place
@@ -82,7 +86,8 @@ module _ {I J : Type 0} (name : I → J) (columns : List (ColumnOf I)) where
   ungrouped_renamed (Some column) width keys place kind = refl
   ungrouped_renamed None width keys place kind = refl
 
-  regroup_form : (keys : List TypedExpr) (form : TypedExpr-F Regrouped) → regrouped_step same_expr columns_too keys form ≡ regrouped_step same_expr columns keys form
+  regroup_form : (keys : List TypedExpr) (form : TypedExpr-F Regrouped) →
+      regrouped_step same_expr columns_too keys form ≡ regrouped_step same_expr columns keys form
   regroup_form keys (O.Column place kind) = ap (by_key same_expr columns_too keys (typed.Column place kind))
       (ap (λ (c : Option (ColumnOf J)). ungrouped c (length columns_too) (length keys) place kind) (get_renamed name columns place)
       ∙ ungrouped_renamed (slice_get columns place) (length columns_too) (length keys) place kind
@@ -91,30 +96,39 @@ module _ {I J : Type 0} (name : I → J) (columns : List (ColumnOf I)) where
   regroup_form keys (O.Call function arguments kind) = refl
   regroup_form keys (O.Cast child kind) = refl
 
-  regroup_renamed : (keys : List TypedExpr) (expr : TypedExpr) → regrouped same_expr columns_too keys expr ≡ regrouped same_expr columns keys expr
+  regroup_renamed : (keys : List TypedExpr) (expr : TypedExpr) →
+      regrouped same_expr columns_too keys expr ≡ regrouped same_expr columns keys expr
   unfolding regrouped
-  regroup_renamed keys expr = ap (λ (step : TypedExpr-F Regrouped → Regrouped). (fold-TypedExpr Regrouped step expr).grouped) (fun_ext (regroup_form keys))
+  regroup_renamed keys expr = ap (λ (step : TypedExpr-F Regrouped → Regrouped). (fold-TypedExpr Regrouped step expr).grouped)
+      (fun_ext (regroup_form keys))
 
-  regroup_item : (keys : List TypedExpr) (item : Item) → regrouped_item same_expr columns_too keys item ≡ regrouped_item same_expr columns keys item
+  regroup_item : (keys : List TypedExpr) (item : Item) →
+      regrouped_item same_expr columns_too keys item ≡ regrouped_item same_expr columns keys item
   regroup_item keys item =
-      ap (λ (o : Checked TypedExpr). o >>= λ expr. Ok (record { name = item.name; expr = expr; source = item.source; nullable = item.nullable }))
+      ap (λ (o : Checked TypedExpr). o >>= λ expr.
+      Ok (record { name = item.name; expr = expr; source = item.source; nullable = item.nullable }))
       (regroup_renamed keys item.expr)
 
-  pub regroup_items : (keys : List TypedExpr) (items : List Item) → regrouped_items columns_too keys items ≡ regrouped_items columns keys items
-  regroup_items keys items = all-same (regrouped_item same_expr columns_too keys) (regrouped_item same_expr columns keys) (regroup_item keys) items
+  pub regroup_items : (keys : List TypedExpr) (items : List Item) →
+      regrouped_items columns_too keys items ≡ regrouped_items columns keys items
+  regroup_items keys items = all-same (regrouped_item same_expr columns_too keys) (regrouped_item same_expr columns keys)
+      (regroup_item keys) items
 
 -- ---- what reads the relations with plan ids too
 
-module _ {I J : Type 0} (name : I → J) (same : I → I → Bool) (same_too : J → J → Bool) (tells : TellsApart same same_too name) (exact : Bool) (columns : List (ColumnOf I)) (relations : List (Tagged I)) where
+module _ {I J : Type 0} (name : I → J) (same : I → I → Bool) (same_too : J → J → Bool) (tells : TellsApart same same_too name)
+    (exact : Bool) (columns : List (ColumnOf I)) (relations : List (Tagged I)) where
   abbrev scope_too : List (ColumnOf J)
   scope_too = renamed_columns name columns
 
   abbrev relations_too : List (Tagged J)
   relations_too = renamed_relations name relations
 
-  standing_form : (form : Expr-F Standing) → standing_step same_too exact scope_too relations_too form ≡ standing_step same exact columns relations form
+  standing_form : (form : Expr-F Standing) →
+      standing_step same_too exact scope_too relations_too form ≡ standing_step same exact columns relations form
   standing_form (E.Literal literal) = refl
-  standing_form (E.UnresolvedAttribute attribute) = ap (λ (o : Checked TypedExpr). leaf (some_typed o)) (attribute_typed name same same_too tells exact columns relations attribute)
+  standing_form (E.UnresolvedAttribute attribute) =
+      ap (λ (o : Checked TypedExpr). leaf (some_typed o)) (attribute_typed name same same_too tells exact columns relations attribute)
   standing_form (E.UnresolvedFunction f) = ap (λ (n : ℕ). record { star = false; typed = function_typed n f }) (count_renamed name columns)
   standing_form (E.UnresolvedStar star) = refl
   standing_form (E.Alias alias) = refl
@@ -133,10 +147,12 @@ module _ {I J : Type 0} (name : I → J) (same : I → I → Bool) (same_too : J
 
   -- ---- items
 
-  title_renamed : (attribute : UnresolvedAttribute) → attribute_title same_too exact scope_too relations_too attribute ≡ attribute_title same exact columns relations attribute
+  title_renamed : (attribute : UnresolvedAttribute) →
+      attribute_title same_too exact scope_too relations_too attribute ≡ attribute_title same exact columns relations attribute
   unfolding attribute_title
   title_renamed attribute =
-      ap (name_at scope_too) (attribute_place name same same_too tells exact columns relations attribute.unparsed_identifier attribute.plan_id)
+      ap (name_at scope_too) (attribute_place name same same_too tells exact columns relations attribute.unparsed_identifier
+      attribute.plan_id)
       ∙ name_found name columns (attribute_at same exact columns relations attribute.unparsed_identifier attribute.plan_id)
 
   titles_renamed : attribute_title same_too exact scope_too relations_too ≡ attribute_title same exact columns relations
@@ -145,25 +161,34 @@ module _ {I J : Type 0} (name : I → J) (same : I → I → Bool) (same_too : J
   itemize : (naming : List ℕ) (bare : Bool) → (TypedExpr → Option ℕ) → (List AggregateCall → TypedExpr → Bool) → Typing → Checked Itemized
   itemize naming bare source nullable typing = do
     typed ← or_refused untyped typing.expr
-    Ok (record { item = record { name = naming; expr = typed; source = source typed; nullable = nullable typing.calls typed }; calls = typing.calls })
+    Ok (record {
+      item = record { name = naming; expr = typed; source = source typed; nullable = nullable typing.calls typed };
+      calls = typing.calls;
+    })
 
   typed_item_renamed : (naming : List ℕ) (bare : Bool) (expr : Expr) (allowed : Bool) (calls : List AggregateCall) →
-      typed_item same_too exact scope_too relations_too naming bare expr allowed calls ≡ typed_item same exact columns relations naming bare expr allowed calls
+      typed_item same_too exact scope_too relations_too naming bare expr allowed calls
+      ≡ typed_item same exact columns relations naming bare expr allowed calls
   unfolding itemize
   typed_item_renamed naming bare expr allowed calls =
-      ap (λ (o : Checked Typing). o >>= itemize naming bare (source_of bare scope_too) (is_nullable scope_too)) (typed_renamed expr allowed calls)
-      ∙ ap (λ (s : TypedExpr → Option ℕ). typed_over same exact columns relations expr allowed calls >>= itemize naming bare s (is_nullable scope_too)) (fun_ext (source_renamed name columns bare))
-      ∙ ap (λ (n : List AggregateCall → TypedExpr → Bool). typed_over same exact columns relations expr allowed calls >>= itemize naming bare (source_of bare columns) n)
+      ap (λ (o : Checked Typing). o >>= itemize naming bare (source_of bare scope_too) (is_nullable scope_too))
+      (typed_renamed expr allowed calls)
+      ∙ ap (λ (s : TypedExpr → Option ℕ). typed_over same exact columns relations expr allowed calls
+      >>= itemize naming bare s (is_nullable scope_too)) (fun_ext (source_renamed name columns bare))
+      ∙ ap (λ (n : List AggregateCall → TypedExpr → Bool). typed_over same exact columns relations expr allowed calls
+      >>= itemize naming bare (source_of bare columns) n)
       (fun_ext (λ calls. fun_ext (nullable_renamed name columns calls)))
 
   item_named : (alias : Option (Alias Expr)) (expr : Expr) (allowed : Bool) (calls : List AggregateCall) →
-      item_by same_too exact scope_too relations_too alias expr allowed calls ≡ item_by same exact columns relations alias expr allowed calls
+      item_by same_too exact scope_too relations_too alias expr allowed calls
+      ≡ item_by same exact columns relations alias expr allowed calls
   item_named (Some alias) expr allowed calls = bind-same (one_name alias.name)
       (λ naming. typed_item same_too exact scope_too relations_too naming false alias.expr allowed calls)
       (λ naming. typed_item same exact columns relations naming false alias.expr allowed calls)
       (λ naming. typed_item_renamed naming false alias.expr allowed calls)
   item_named None expr allowed calls =
-      ap (λ (t : UnresolvedAttribute → List ℕ). typed_item same_too exact scope_too relations_too (title t expr) true expr allowed calls) titles_renamed
+      ap (λ (t : UnresolvedAttribute → List ℕ). typed_item same_too exact scope_too relations_too (title t expr) true expr allowed calls)
+      titles_renamed
       ∙ typed_item_renamed (title (attribute_title same exact columns relations) expr) true expr allowed calls
 
   item_renamed : (expr : Expr) (allowed : Bool) (calls : List AggregateCall) →
@@ -177,48 +202,65 @@ module _ {I J : Type 0} (name : I → J) (same : I → I → Bool) (same_too : J
   unfolding value_of
   value_renamed expr = ap (λ (o : Checked Typing). o >>= λ typing. or_refused untyped typing.expr) (typed_renamed expr false [])
 
-  pub condition_renamed : (what : List ℕ) (expr : Expr) → condition_of same_too exact scope_too relations_too what expr ≡ condition_of same exact columns relations what expr
+  pub condition_renamed : (what : List ℕ) (expr : Expr) →
+      condition_of same_too exact scope_too relations_too what expr ≡ condition_of same exact columns relations what expr
   unfolding condition_of
   condition_renamed what expr = ap (λ (o : Checked TypedExpr). o >>= boolean_only what) (value_renamed expr)
 
-  sort_key_renamed : (order : SortOrder Expr) → sort_key_of same_too exact scope_too relations_too order ≡ sort_key_of same exact columns relations order
+  sort_key_renamed : (order : SortOrder Expr) →
+      sort_key_of same_too exact scope_too relations_too order ≡ sort_key_of same exact columns relations order
   unfolding sort_key_of
   sort_key_renamed order =
-      ap (λ (o : Checked TypedExpr). o >>= λ expr. Ok (record { expr = expr; descending = is_descending order.direction; nulls_last = has_nulls_last order.direction order.null_ordering }))
+      ap (λ (o : Checked TypedExpr). o >>= λ expr. Ok (record {
+        expr = expr;
+        descending = is_descending order.direction;
+        nulls_last = has_nulls_last order.direction order.null_ordering;
+      }))
       (value_renamed order.child)
 
-  pub sort_keys_renamed : (orders : List (SortOrder Expr)) → sort_keys_of same_too exact scope_too relations_too orders ≡ sort_keys_of same exact columns relations orders
+  pub sort_keys_renamed : (orders : List (SortOrder Expr)) →
+      sort_keys_of same_too exact scope_too relations_too orders ≡ sort_keys_of same exact columns relations orders
   unfolding sort_keys_of
-  sort_keys_renamed orders = all-same (sort_key_of same_too exact scope_too relations_too) (sort_key_of same exact columns relations) sort_key_renamed orders
+  sort_keys_renamed orders = all-same (sort_key_of same_too exact scope_too relations_too) (sort_key_of same exact columns relations)
+      sort_key_renamed orders
 
   plain_renamed : (expr : Expr) → plain_item same_too exact scope_too relations_too expr ≡ plain_item same exact columns relations expr
   unfolding plain_item
   plain_renamed expr = ap (λ (o : Checked Itemized). o >>= λ i. Ok i.item) (item_renamed expr false [])
 
-  pub keys_renamed : (exprs : List Expr) → key_items same_too exact scope_too relations_too exprs ≡ key_items same exact columns relations exprs
+  pub keys_renamed : (exprs : List Expr) → key_items same_too exact scope_too relations_too exprs
+      ≡ key_items same exact columns relations exprs
   unfolding key_items
-  keys_renamed exprs = all-same (plain_item same_too exact scope_too relations_too) (plain_item same exact columns relations) plain_renamed exprs
+  keys_renamed exprs = all-same (plain_item same_too exact scope_too relations_too) (plain_item same exact columns relations)
+      plain_renamed exprs
 
-  added_renamed : (alias : Alias Expr) → added_item same_too exact scope_too relations_too alias ≡ added_item same exact columns relations alias
+  added_renamed : (alias : Alias Expr) → added_item same_too exact scope_too relations_too alias
+      ≡ added_item same exact columns relations alias
   unfolding added_item
   added_renamed alias = ap (λ (o : Checked Itemized). o >>= λ i. Ok i.item) (item_named (Some alias) alias.expr false [])
 
-  pub all_added_renamed : (aliases : List (Alias Expr)) → added_items same_too exact scope_too relations_too aliases ≡ added_items same exact columns relations aliases
+  pub all_added_renamed : (aliases : List (Alias Expr)) →
+      added_items same_too exact scope_too relations_too aliases ≡ added_items same exact columns relations aliases
   unfolding added_items
-  all_added_renamed aliases = all-same (added_item same_too exact scope_too relations_too) (added_item same exact columns relations) added_renamed aliases
+  all_added_renamed aliases = all-same (added_item same_too exact scope_too relations_too) (added_item same exact columns relations)
+      added_renamed aliases
 
   -- ---- projections
 
-  projected_part : (star : Option UnresolvedStar) (expr : Expr) → projected_by same_too exact scope_too relations_too star expr ≡ projected_by same exact columns relations star expr
+  projected_part : (star : Option UnresolvedStar) (expr : Expr) →
+      projected_by same_too exact scope_too relations_too star expr ≡ projected_by same exact columns relations star expr
   projected_part (Some star) expr = star_renamed name exact columns star.unparsed_target
   projected_part None expr = ap (λ (o : Checked Item). o >>= λ item. Ok (item ∷ [])) (plain_renamed expr)
 
-  pub projected_renamed : (exprs : List Expr) → projected same_too exact scope_too relations_too exprs ≡ projected same exact columns relations exprs
+  pub projected_renamed : (exprs : List Expr) →
+      projected same_too exact scope_too relations_too exprs ≡ projected same exact columns relations exprs
   unfolding projected
   projected_renamed [] = refl
   projected_renamed (expr ∷ exprs) =
-      ap (λ (o : Checked (List Item)). o >>= λ first. projected same_too exact scope_too relations_too exprs >>= λ rest. Ok (first ++ rest)) (projected_part (star_of expr) expr)
-      ∙ ap (λ (o : Checked (List Item)). projected_by same exact columns relations (star_of expr) expr >>= λ first. o >>= λ rest. Ok (first ++ rest)) (projected_renamed exprs)
+      ap (λ (o : Checked (List Item)). o >>= λ first. projected same_too exact scope_too relations_too exprs >>= λ rest. Ok (first ++ rest))
+      (projected_part (star_of expr) expr)
+      ∙ ap (λ (o : Checked (List Item)). projected_by same exact columns relations (star_of expr) expr >>= λ first. o
+      >>= λ rest. Ok (first ++ rest)) (projected_renamed exprs)
 
   -- ---- items of an aggregate
 
@@ -226,7 +268,8 @@ module _ {I J : Type 0} (name : I → J) (same : I → I → Bool) (same_too : J
       grouped_item same_too exact scope_too relations_too keys expr calls ≡ grouped_item same exact columns relations keys expr calls
   unfolding grouped_item
   group_item keys expr calls =
-      ap (λ (o : Checked Itemized). o >>= λ i. regrouped_items scope_too keys (i.item ∷ []) >>= λ items. Ok (group items i.calls)) (item_renamed expr true calls)
+      ap (λ (o : Checked Itemized). o >>= λ i. regrouped_items scope_too keys (i.item ∷ []) >>= λ items. Ok (group items i.calls))
+      (item_renamed expr true calls)
       ∙ bind-same (item_of same exact columns relations expr true calls) _ _
       (λ i. ap (λ (o : Checked (List Item)). o >>= λ items. Ok (group items i.calls)) (regroup_items name columns keys (i.item ∷ [])))
 
@@ -234,7 +277,8 @@ module _ {I J : Type 0} (name : I → J) (same : I → I → Bool) (same_too : J
       grouped_star same_too exact scope_too relations_too keys star calls ≡ grouped_star same exact columns relations keys star calls
   unfolding grouped_star
   group_star keys star calls =
-      ap (λ (o : Checked (List Item)). o >>= λ meant. regrouped_items scope_too keys meant >>= λ items. Ok (group items calls)) (star_renamed name exact columns star.unparsed_target)
+      ap (λ (o : Checked (List Item)). o >>= λ meant. regrouped_items scope_too keys meant >>= λ items. Ok (group items calls))
+      (star_renamed name exact columns star.unparsed_target)
       ∙ bind-same (star_items exact columns star.unparsed_target) _ _
       (λ meant. ap (λ (o : Checked (List Item)). o >>= λ items. Ok (group items calls)) (regroup_items name columns keys meant))
 
@@ -248,7 +292,9 @@ module _ {I J : Type 0} (name : I → J) (same : I → I → Bool) (same_too : J
   unfolding grouped
   grouped_renamed stars keys [] calls = refl
   grouped_renamed stars keys (expr ∷ exprs) calls =
-      ap (λ (o : Checked Grouped). o >>= λ first. grouped same_too exact scope_too relations_too stars keys exprs first.calls >>= λ rest. Ok (group (first.items ++ rest.items) rest.calls))
+      ap (λ (o : Checked Grouped). o >>= λ first. grouped same_too exact scope_too relations_too stars keys exprs first.calls
+      >>= λ rest. Ok (group (first.items ++ rest.items) rest.calls))
       (group_part (star_meant stars expr) keys expr calls)
       ∙ bind-same (grouped_by same exact columns relations (star_meant stars expr) keys expr calls) _ _
-      (λ first. ap (λ (o : Checked Grouped). o >>= λ rest. Ok (group (first.items ++ rest.items) rest.calls)) (grouped_renamed stars keys exprs first.calls))
+      (λ first. ap (λ (o : Checked Grouped). o >>= λ rest. Ok (group (first.items ++ rest.items) rest.calls))
+      (grouped_renamed stars keys exprs first.calls))

@@ -5,7 +5,9 @@ pub mod Joining
 pub mod Keeping
 pub mod Limits
 pub mod Making
+pub mod Pairs
 pub mod Places
 pub mod Searches
 pub mod SetOperations
 pub mod Steps
+pub mod TogetherRules

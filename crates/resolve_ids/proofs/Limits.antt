@@ -21,16 +21,19 @@ module _ {I J : Type 0} (name : I → J) where
   pub within_renamed : (columns : List (ColumnOf I)) → within_limits (renamed_columns name columns) ≡ within_limits columns
   unfolding within_limits
   within_renamed columns =
-      ap (λ (n : ℕ). column_limit n >>= λ counted. no_long_name (find is_too_long (renamed_columns name columns))) (count_renamed name columns)
+      ap (λ (n : ℕ). column_limit n >>= λ counted. no_long_name (find is_too_long (renamed_columns name columns)))
+      (count_renamed name columns)
       ∙ ap (λ (o : Checked (Unit {0})). column_limit (length columns) >>= λ counted. o)
       (ap no_long_name (find-map (renamed_column name) is_too_long columns) ∙ long_renamed (find is_too_long columns))
 
   -- ---- answers that are alike
 
-  too_many : {K : Type 0} (columns : List (ColumnOf K)) → nat_lt 1000 (length columns) ≡ true → within_limits columns ≡ refused (refusal TooManyColumns (decimal (length columns)))
+  too_many : {K : Type 0} (columns : List (ColumnOf K)) → nat_lt 1000 (length columns) ≡ true →
+      within_limits columns ≡ refused (refusal TooManyColumns (decimal (length columns)))
   unfolding within_limits
   too_many columns many =
-      ap (λ (b : Bool). unless b (refusal TooManyColumns (decimal (length columns))) >>= λ counted. no_long_name (find is_too_long columns)) many
+      ap (λ (b : Bool). unless b (refusal TooManyColumns (decimal (length columns))) >>= λ counted. no_long_name (find is_too_long columns))
+      many
 
   module _ (found : FoundOf I) where
     few_limited : limited (Ok (renamed name found)) ≡ made (renamed name) (limited (Ok found))
@@ -51,7 +54,8 @@ module _ {I J : Type 0} (name : I → J) where
     found_limited other alike false is =
         ap (λ (f : FoundOf J). limited (Ok f)) (alike.whole (ltb-false 1000 (length found.columns) is)) ∙ few_limited
 
-  pub limited_alike : (answer : Checked (FoundOf I)) (other : Checked (FoundOf J)) → Alike name answer other → limited other ≡ made (renamed name) (limited answer)
+  pub limited_alike : (answer : Checked (FoundOf I)) (other : Checked (FoundOf J)) → Alike name answer other →
+      limited other ≡ made (renamed name) (limited answer)
   limited_alike (Ok found) (Ok other) alike = found_limited found other alike (nat_lt 1000 (length found.columns)) refl
   limited_alike (Ok found) (Err stop) alike = absurd alike
   limited_alike (Err stop) (Ok other) alike = absurd alike

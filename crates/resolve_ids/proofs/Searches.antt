@@ -21,11 +21,13 @@ pub bind-same : {X Y : Type 0} (answer : Checked X) (f g : X → Checked Y) → 
 bind-same (Ok x) f g same = same x
 bind-same (Err stop) f g same = refl
 
-pub bind-made : {X Y Z : Type 0} (f : X → Y) (answer : Checked X) (next : Y → Checked Z) → (made f answer >>= next) ≡ (answer >>= λ x. next (f x))
+pub bind-made : {X Y Z : Type 0} (f : X → Y) (answer : Checked X) (next : Y → Checked Z) →
+    (made f answer >>= next) ≡ (answer >>= λ x. next (f x))
 bind-made f (Ok x) next = refl
 bind-made f (Err stop) next = refl
 
-pub made-bind : {X Y Z : Type 0} (f : Y → Z) (answer : Checked X) (next : X → Checked Y) → made f (answer >>= next) ≡ (answer >>= λ x. made f (next x))
+pub made-bind : {X Y Z : Type 0} (f : Y → Z) (answer : Checked X) (next : X → Checked Y) →
+    made f (answer >>= next) ≡ (answer >>= λ x. made f (next x))
 made-bind f (Ok x) next = refl
 made-bind f (Err stop) next = refl
 
@@ -33,10 +35,12 @@ pub found-made : {X Y : Type 0} (f : X → Y) (why : Refusal) (o : Option X) →
 found-made f why (Some x) = refl
 found-made f why None = refl
 
-pub all-same : {X Y : Type 0} (f g : X → Checked Y) → ((x : X) → f x ≡ g x) → (xs : List X) → all_checked (map f xs) ≡ all_checked (map g xs)
+pub all-same : {X Y : Type 0} (f g : X → Checked Y) → ((x : X) → f x ≡ g x) → (xs : List X) →
+    all_checked (map f xs) ≡ all_checked (map g xs)
 all-same f g same xs = ap (λ h. all_checked (map h xs)) (fun_ext same)
 
-all_by : {X Y : Type 0} (f : X → Y) (first : Checked X) (rest : Checked (List X)) (rest_too : Checked (List Y)) → rest_too ≡ made (map f) rest →
+all_by : {X Y : Type 0} (f : X → Y) (first : Checked X) (rest : Checked (List X)) (rest_too : Checked (List Y)) →
+    rest_too ≡ made (map f) rest →
     (made f first >>= λ y. rest_too >>= λ ys. Ok (y ∷ ys)) ≡ made (map f) (first >>= λ x. rest >>= λ xs. Ok (x ∷ xs))
 all_by f (Err stop) rest rest_too same = refl
 all_by f (Ok x) rest rest_too same =
@@ -44,7 +48,8 @@ all_by f (Ok x) rest rest_too same =
     ∙ bind-made (map f) rest (λ ys. Ok (f x ∷ ys))
     ∙ sym (made-bind (map f) rest (λ xs. Ok (x ∷ xs)))
 
-pub all-made : {X Y Z : Type 0} (f : Y → Z) (check : X → Checked Y) (check_too : X → Checked Z) → ((x : X) → check_too x ≡ made f (check x)) →
+pub all-made : {X Y Z : Type 0} (f : Y → Z) (check : X → Checked Y) (check_too : X → Checked Z) →
+    ((x : X) → check_too x ≡ made f (check x)) →
     (xs : List X) → all_checked (map check_too xs) ≡ made (map f) (all_checked (map check xs))
 all-made f check check_too agree [] = refl
 all-made f check check_too agree (x ∷ xs) =
@@ -68,7 +73,8 @@ module _ {X Y : Type 0} (f : X → Y) (test : Y → Bool) where
       ∙ ap (λ (n : ℕ). cond (test (f x)) 1 0 + n) (count-map xs)
       ∙ sym (sum_by-cons (λ (y : X). cond (of_made y) 1 0) x xs)
 
-  found_by : (b : Bool) (x : X) (o : Option X) (p : Option Y) → p ≡ option_map f o → cond b (Some (f x)) p ≡ option_map f (cond b (Some x) o)
+  found_by : (b : Bool) (x : X) (o : Option X) (p : Option Y) → p ≡ option_map f o →
+      cond b (Some (f x)) p ≡ option_map f (cond b (Some x) o)
   found_by true x o p same = refl
   found_by false x o p same = same
 
@@ -93,13 +99,15 @@ module _ {X Y : Type 0} (f : X → Y) (test : Y → Bool) where
 
   pub position-map : (xs : List X) → position test (map f xs) ≡ position of_made xs
   position-map xs =
-      ap (λ (n : ℕ). place_in n (length (map f xs))) (first-map xs) ∙ ap (λ (n : ℕ). place_in (position_or_len of_made xs) n) (length-map xs f)
+      ap (λ (n : ℕ). place_in n (length (map f xs))) (first-map xs)
+      ∙ ap (λ (n : ℕ). place_in (position_or_len of_made xs) n) (length-map xs f)
 
   module _ (none many : Refusal) (xs : List X) where
     abbrev item_by : ℕ → Option Y → Checked Y
     item_by count found = if nat_lt 1 count then refused many else or_refused none found
 
-    item_made : (b : Bool) (o : Option X) → (if b then refused many else or_refused none (option_map f o)) ≡ made f (if b then refused many else or_refused none o)
+    item_made : (b : Bool) (o : Option X) → (if b then refused many else or_refused none (option_map f o))
+        ≡ made f (if b then refused many else or_refused none o)
     item_made true o = refl
     item_made false o = found-made f none o
 
@@ -150,7 +158,8 @@ pub map-agree : {X Y : Type 0} (f g : X → Y) → ((x : X) → f x ≡ g x) →
 map-agree f g same xs = ap (λ h. map h xs) (fun_ext same)
 
 module _ {X Y Z : Type 0} where
-  number_made : (f : X → Y) (make : ℕ → Y → Z) (number : ℕ) (xs : List X) → numbered_from make number (map f xs) ≡ numbered_from (λ n x. make n (f x)) number xs
+  number_made : (f : X → Y) (make : ℕ → Y → Z) (number : ℕ) (xs : List X) →
+      numbered_from make number (map f xs) ≡ numbered_from (λ n x. make n (f x)) number xs
   number_made f make number [] = refl
   number_made f make number (x ∷ xs) = ap (λ (l : List Z). make number (f x) ∷ l) (number_made f make (suc number) xs)
 
@@ -165,12 +174,15 @@ module _ {X Y : Type 0} where
   pub length-numbered : (make : ℕ → X → Y) (xs : List X) → length (numbered make xs) ≡ length xs
   length-numbered make xs = number_long make 0 xs
 
-  pub numbered-agree : (make other : ℕ → X → Y) → ((n : ℕ) (x : X) → make n x ≡ other n x) → (xs : List X) → numbered make xs ≡ numbered other xs
+  pub numbered-agree : (make other : ℕ → X → Y) → ((n : ℕ) (x : X) → make n x ≡ other n x) → (xs : List X) →
+      numbered make xs ≡ numbered other xs
   numbered-agree make other same xs = ap (λ (h : ℕ → X → Y). numbered h xs) (fun_ext (λ n. fun_ext (same n)))
 
 -- what is made of each numbered item, where they agree on the numbers below a limit
-module _ {X Y Z : Type 0} (g : Y → Z) (make : ℕ → X → Y) (make_too : ℕ → X → Z) (limit : ℕ) (agree : (n : ℕ) (x : X) → n < limit → make_too n x ≡ g (make n x)) where
-  number_below : (number : ℕ) (xs : List X) → number + length xs ≤ limit → numbered_from make_too number xs ≡ map g (numbered_from make number xs)
+module _ {X Y Z : Type 0} (g : Y → Z) (make : ℕ → X → Y) (make_too : ℕ → X → Z) (limit : ℕ)
+    (agree : (n : ℕ) (x : X) → n < limit → make_too n x ≡ g (make n x)) where
+  number_below : (number : ℕ) (xs : List X) → number + length xs ≤ limit →
+      numbered_from make_too number xs ≡ map g (numbered_from make number xs)
   number_below number [] few = refl
   number_below number (x ∷ xs) few =
       ap (λ (z : Z). z ∷ numbered_from make_too (suc number) xs) (agree number x (omega arith))

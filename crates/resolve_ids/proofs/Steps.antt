@@ -31,7 +31,8 @@ module _ {I J : Type 0} (name : I → J) where
       subst (λ (o : Checked _). Alike name (answer >>= next) (o >>= next_too)) (sym same) (steps_alike answer next next_too alike)
 
   -- the same where what is answered has other ids too
-  pub then_made_alike : {A B : Type 0} (f : A → B) (answer : Checked A) (other : Checked B) (next : A → Checked (FoundOf I)) (next_too : B → Checked (FoundOf J)) →
+  pub then_made_alike : {A B : Type 0} (f : A → B) (answer : Checked A) (other : Checked B) (next : A → Checked (FoundOf I))
+      (next_too : B → Checked (FoundOf J)) →
       other ≡ made f answer → ((x : A) → Alike name (next x) (next_too (f x))) → Alike name (answer >>= next) (other >>= next_too)
   then_made_alike f answer other next next_too same alike =
       subst (λ (o : Checked (FoundOf J)). Alike name (answer >>= next) o)
@@ -47,7 +48,8 @@ module _ {I J : Type 0} (name : I → J) where
 
     -- the same relations with plan ids over one node, and columns that are alike
     pub columns_alike : (columns : List (ColumnOf I)) (columns_too : List (ColumnOf J)) → length columns_too ≡ length columns →
-        (length columns ≤ 1000 → columns_too ≡ renamed_columns name columns) → FoundAlike name (with_columns columns) (with_others columns_too)
+        (length columns ≤ 1000 → columns_too ≡ renamed_columns name columns) →
+        FoundAlike name (with_columns columns) (with_others columns_too)
     columns_alike columns columns_too count whole = record { node = refl; count = count; whole = λ few. ap with_others (whole few) }
 
     -- columns made item by item
@@ -61,8 +63,10 @@ module _ {I J : Type 0} (name : I → J) where
 
     -- columns made of columns
     pub renumbered_alike : (make : ℕ → ColumnOf I → ColumnOf I) (make_too : ℕ → ColumnOf J → ColumnOf J) →
-        ((n : ℕ) (x : ColumnOf I) → n < 1000 → make_too n (renamed_column name x) ≡ renamed_column name (make n x)) → (xs : List (ColumnOf I)) →
+        ((n : ℕ) (x : ColumnOf I) → n < 1000 → make_too n (renamed_column name x) ≡ renamed_column name (make n x)) →
+        (xs : List (ColumnOf I)) →
         FoundAlike name (with_columns (numbered make xs)) (with_others (numbered make_too (renamed_columns name xs)))
     renumbered_alike make make_too agree xs =
-        subst (λ (l : List (ColumnOf J)). FoundAlike name (with_columns (numbered make xs)) (with_others l)) (sym (numbered-made (renamed_column name) make_too xs))
+        subst (λ (l : List (ColumnOf J)). FoundAlike name (with_columns (numbered make xs)) (with_others l))
+        (sym (numbered-made (renamed_column name) make_too xs))
         (numbered_alike make (λ n x. make_too n (renamed_column name x)) agree xs)

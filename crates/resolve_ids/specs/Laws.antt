@@ -21,9 +21,12 @@ pub record LimitsJudgeAlike (I J : Type 0) : Type 0 where
 
 -- rules that keep the columns of their input
 pub record RowsKeptAlike (I J : Type 0) : Type 0 where
-  pub limit : (name : I → J) (input : FoundOf I) (number : ℤ) → Alike name (limit_rule input number) (limit_rule (renamed name input) number)
-  pub offset : (name : I → J) (input : FoundOf I) (number : ℤ) → Alike name (offset_rule input number) (offset_rule (renamed name input) number)
-  pub alias : (name : I → J) (input : FoundOf I) (alias : List ℕ) → alias_rule (renamed name input) alias ≡ renamed name (alias_rule input alias)
+  pub limit : (name : I → J) (input : FoundOf I) (number : ℤ) →
+      Alike name (limit_rule input number) (limit_rule (renamed name input) number)
+  pub offset : (name : I → J) (input : FoundOf I) (number : ℤ) →
+      Alike name (offset_rule input number) (offset_rule (renamed name input) number)
+  pub alias : (name : I → J) (input : FoundOf I) (alias : List ℕ) →
+      alias_rule (renamed name input) alias ≡ renamed name (alias_rule input alias)
   pub deduplicate : (name : I → J) (exact : Bool) (input : FoundOf I) (all : Bool) (names : List (List ℕ)) →
       Alike name (deduplicate_rule exact input all names) (deduplicate_rule exact (renamed name input) all names)
   pub filter : (name : I → J) (same : I → I → Bool) (same_too : J → J → Bool) → TellsApart same same_too name →
@@ -38,12 +41,14 @@ pub record LeavesAlike (I J : Type 0) : Type 0 where
   pub range : (name : I → J) (fresh : ℕ → I) (fresh_too : ℕ → J) → DrawnAlike name fresh fresh_too →
       (start end step : ℤ) → Alike name (range_rule fresh start end step) (range_rule fresh_too start end step)
   pub read : (name : I → J) (fresh : ℕ → I) (fresh_too : ℕ → J) → DrawnAlike name fresh fresh_too →
-      (tables : List NamedTable) (identifier : List ℕ) → Alike name (read_rule fresh tables identifier) (read_rule fresh_too tables identifier)
+      (tables : List NamedTable) (identifier : List ℕ) →
+      Alike name (read_rule fresh tables identifier) (read_rule fresh_too tables identifier)
 
 -- rules that give columns other names
 pub record NamedAlike (I J : Type 0) : Type 0 where
   pub to_df : (name : I → J) (fresh : ℕ → I) (fresh_too : ℕ → J) → DrawnAlike name fresh fresh_too →
-      (input : FoundOf I) (names : List (List ℕ)) → Alike name (to_df_rule fresh input names) (to_df_rule fresh_too (renamed name input) names)
+      (input : FoundOf I) (names : List (List ℕ)) →
+      Alike name (to_df_rule fresh input names) (to_df_rule fresh_too (renamed name input) names)
   pub with_columns_renamed : (name : I → J) (fresh : ℕ → I) (fresh_too : ℕ → J) → DrawnAlike name fresh fresh_too →
       (exact : Bool) (input : FoundOf I) (entries : List RenameEntry) →
       FoundAlike name (renamed_rule exact fresh input entries) (renamed_rule exact fresh_too (renamed name input) entries)
@@ -59,7 +64,8 @@ pub record ColumnsMadeAlike (I J : Type 0) : Type 0 where
   pub with_columns : (name : I → J) (fresh : ℕ → I) (fresh_too : ℕ → J) → DrawnAlike name fresh fresh_too →
       (same : I → I → Bool) (same_too : J → J → Bool) → TellsApart same same_too name →
       (exact : Bool) (input : FoundOf I) (aliases : List (Alias Expr)) →
-      Alike name (with_columns_rule same exact fresh input aliases) (with_columns_rule same_too exact fresh_too (renamed name input) aliases)
+      Alike name (with_columns_rule same exact fresh input aliases)
+      (with_columns_rule same_too exact fresh_too (renamed name input) aliases)
   pub project : (name : I → J) (fresh : ℕ → I) (fresh_too : ℕ → J) → DrawnAlike name fresh fresh_too →
       (same : I → I → Bool) (same_too : J → J → Bool) → TellsApart same same_too name →
       (exact : Bool) (input : FoundOf I) (exprs : List Expr) →

@@ -2,3 +2,5 @@
 pub mod Laws
 pub mod PairLaws
 pub mod Renaming
+pub mod Together
+pub mod TogetherLaws

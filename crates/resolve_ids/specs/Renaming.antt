@@ -27,7 +27,12 @@ renamed_relations name relations = map (renamed_tagged name) relations
 
 -- the same relation under other ids; its node has none
 abbrev pub renamed : {I J : Type 0} → (I → J) → FoundOf I → FoundOf J
-renamed name found = record { node = found.node; columns = renamed_columns name found.columns; relations = renamed_relations name found.relations }
+renamed name found = record {
+  node = found.node;
+  columns = renamed_columns name found.columns;
+  relations =
+      renamed_relations name found.relations;
+}
 
 -- other ids tell columns apart as these do
 pub record TellsApart {I J : Type 0} (same : I → I → Bool) (same_too : J → J → Bool) (name : I → J) : Type 0 where
