@@ -30,8 +30,7 @@ abbrev pub renamed : {I J : Type 0} → (I → J) → FoundOf I → FoundOf J
 renamed name found = record {
   node = found.node;
   columns = renamed_columns name found.columns;
-  relations =
-      renamed_relations name found.relations;
+  relations = renamed_relations name found.relations;
 }
 
 -- other ids tell columns apart as these do
