@@ -6,6 +6,7 @@ pub mod Keeping
 pub mod Limits
 pub mod Making
 pub mod Pairs
+pub mod PassedOn
 pub mod Places
 pub mod Searches
 pub mod SetOperations

@@ -1,10 +1,26 @@
 -- Relations that differ only in the ids of their columns, where it is known which ids belong together.
-use Rattle.std.specs.Prelude.{◌≡◌, ℕ, ◌<◌, Bool, Ok, Err}
+use Rattle.std.specs.Prelude.{◌≡◌, ℕ, ℤ, ◌<◌, Bool, List, [], ◌∷◌, ◌++◌, map, Ok, Err}
 use Rattle.std.specs.List.{AllZip}
+use Rattle.cn_types.specs.declared.schema.Field.{Field}
 use Rattle.resolve_names.specs.declared.scope.ColumnOf.{ColumnOf}
 use Rattle.resolve_names.specs.declared.scope.Tagged.{Tagged}
 use Rattle.resolve_names.specs.Checks.{Checked}
 use Rattle.resolve_relations.specs.declared.found.FoundOf.{FoundOf}
+
+-- a relation with a plan id stands behind the relations with plan ids in it
+abbrev pub with_plan_id : {I : Type 0} → FoundOf I → ℤ → FoundOf I
+with_plan_id found plan = record {
+  node = found.node;
+  columns = found.columns;
+  relations = found.relations ++ record { plan_id = plan; columns = found.columns } ∷ [];
+}
+
+-- what a schema shows of columns
+abbrev pub shown_column : {I : Type 0} → ColumnOf I → Field
+shown_column column = record { name = column.name; kind = column.kind; nullable = column.nullable }
+
+abbrev pub shown : {I : Type 0} → FoundOf I → List Field
+shown found = map shown_column found.columns
 
 module _ {I J : Type 0} (Belong : I → J → Type 0) where
   -- one column under two ids

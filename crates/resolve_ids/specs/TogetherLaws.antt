@@ -11,7 +11,7 @@ use Rattle.resolve_relations.specs.Making.{aggregate_rule, drop_rule, project_ru
 use Rattle.resolve_joins.specs.Joins.{join_rule}
 use Rattle.resolve_sets.specs.Sets.{set_rule}
 use Rattle.resolve_ids.specs.Renaming.{limited}
-use Rattle.resolve_ids.specs.Together.{DrawnTogether, SameAnswer, SameFound, TellsTogether}
+use Rattle.resolve_ids.specs.Together.{DrawnTogether, SameAnswer, SameFound, TellsTogether, shown, with_plan_id}
 
 -- rules that need no id
 pub record RowsStaySame {I J : Type 0} (Belong : I → J → Type 0) : Type 0 where
@@ -77,6 +77,25 @@ pub record RulesStaySame {I J : Type 0} (Belong : I → J → Type 0) : Type 0 w
   pub columns : (same : I → I → Bool) (same_too : J → J → Bool) → TellsTogether Belong same same_too →
       (fresh : ℕ → I) (fresh_too : ℕ → J) → DrawnTogether Belong fresh fresh_too → ColumnsStaySame Belong same same_too fresh fresh_too
 
+-- what one relation under two ids for each column is from above and at the end: the same with a plan id, and of one node and schema
+pub record SameIsPassedOn {I J : Type 0} (Belong : I → J → Type 0) : Type 0 where
+  pub tagged : (found : FoundOf I) (other : FoundOf J) → SameFound Belong found other →
+      (plan : ℤ) → SameFound Belong (with_plan_id found plan) (with_plan_id other plan)
+  pub node : (found : FoundOf I) (other : FoundOf J) → SameFound Belong found other → other.node ≡ found.node
+  pub schema : (found : FoundOf I) (other : FoundOf J) → SameFound Belong found other → shown other ≡ shown found
+
+-- one relation under two ids for each column is that too where more ids belong together
+abbrev pub SameWhereMoreBelong : {I J : Type 0} → (I → J → Type 0) → (I → J → Type 0) → Type 0
+SameWhereMoreBelong {I} {J} Belong More =
+    ((a : I) (b : J) → Belong a b → More a b) → (found : FoundOf I) (other : FoundOf J) → SameFound Belong found other →
+    SameFound More found other
+
+-- ids belong together where this says so
+abbrev pub By : {I J : Type 0} → (I → J → Bool) → I → J → Type 0
+By belong a b = belong a b ≡ true
+
 -- whichever ids are said to belong together
-abbrev pub StaySameUnderAnyIds : (I J : Type 0) → Type 0
-StaySameUnderAnyIds I J = (belong : I → J → Bool) → RulesStaySame (λ a b. belong a b ≡ true)
+pub record StaySameUnderAnyIds (I J : Type 0) : Type 0 where
+  pub rules : (belong : I → J → Bool) → RulesStaySame (By belong)
+  pub passed_on : (belong : I → J → Bool) → SameIsPassedOn (By belong)
+  pub more : (belong more : I → J → Bool) → SameWhereMoreBelong (By belong) (By more)
