@@ -12,7 +12,7 @@ use Rattle.resolve_names.specs.Refusals.{Refusal}
 use Rattle.resolve_names.specs.Scopes.{ambiguous, attribute_at, bare_at, has_plan_id, is_named, named_column, named_place, parts_of, place_of_id, planned_at, relation_of, unresolved}
 use Rattle.resolve_types.specs.Leaves.{column_at, typed_attribute}
 use Rattle.resolve_expressions.specs.declared.item.Item.{Item}
-use Rattle.resolve_expressions.specs.Stars.{any_column, has_qualifier, item_where, items_where, qualified, some_items, star_items, target_name}
+use Rattle.resolve_expressions.specs.Stars.{any_column, has_qualifier, item_where, items_where, star_items}
 use Rattle.resolve_ids.specs.Renaming.{TellsApart, renamed_column, renamed_columns, renamed_relations, renamed_tagged}
 use Rattle.resolve_ids.proofs.Searches.{bind-made, bind-same, item-agree, made, place-agree}
 
@@ -147,16 +147,12 @@ module _ {I J : Type 0} (name : I → J) where
       ap (λ (b : Bool). item_where b place column ++ items_where passes (suc place) (others columns)) (agree column)
       ∙ ap (λ (l : List Item). item_where (before column) place column ++ l) (items_renamed passes before agree (suc place) columns)
 
-  star_with : (exact : Bool) (columns : List (ColumnOf I)) (identifier : List ℕ) →
-      qualified exact (others columns) identifier ≡ qualified exact columns identifier
-  star_with exact columns identifier = bind-same (parts_of identifier)
-      (λ parts. some_items identifier (items_where (has_qualifier exact parts) 0 (others columns)))
-      (λ parts. some_items identifier (items_where (has_qualifier exact parts) 0 columns))
-      (λ parts. ap (some_items identifier) (items_renamed (has_qualifier exact parts) (has_qualifier exact parts) (λ column. refl)
-      0 columns))
+  qualified_items : (exact : Bool) (columns : List (ColumnOf I)) (parts : List (List ℕ)) →
+      items_where (has_qualifier exact parts) 0 (others columns) ≡ items_where (has_qualifier exact parts) 0 columns
+  qualified_items exact columns parts = items_renamed (has_qualifier exact parts) (has_qualifier exact parts) (λ column. refl) 0 columns
 
   pub star_renamed : (exact : Bool) (columns : List (ColumnOf I)) (target : Option (List ℕ)) →
       star_items exact (others columns) target ≡ star_items exact columns target
   unfolding star_items
   star_renamed exact columns None = ap Ok (items_renamed any_column any_column (λ column. refl) 0 columns)
-  star_renamed exact columns (Some target) = star_with exact columns (target_name target)
+  star_renamed exact columns (Some target) = simp (qualified_items exact columns)
