@@ -114,7 +114,7 @@ fn copied(alloc: Global, item: &Item) -> Result<Item, OutOfMemory>
 }
 
 /// The column at a place, as it is.
-pub(crate) fn column_item(
+pub fn column_item(
     alloc: Global,
     place: u32,
     column: &ScopeColumn,

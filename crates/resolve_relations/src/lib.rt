@@ -16,7 +16,7 @@ mod testing;
 #[cfg(test)]
 mod tests;
 
-pub use adding::with_columns;
+pub use adding::{column_item, with_columns};
 pub use aggregating::{aggregate, project};
 pub use dropping::{Meant, drop_columns};
 pub use found::{Found, FoundOf};
@@ -26,4 +26,5 @@ pub use limits::{column_limit, number_stop, signed_stop, within_limits};
 pub use made::{exprs_of, fresh_column, id_at, made_columns};
 pub use naming::{renamed, to_df};
 pub use options::bad_option;
+pub use projecting::projection;
 pub use testing::{filter, sort};

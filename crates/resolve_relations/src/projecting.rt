@@ -37,7 +37,7 @@ pub(crate) fn plain_projection(
 }
 
 /// The items over the input, as columns.
-pub(crate) fn projection(
+pub fn projection(
     alloc: Global,
     base: u64,
     input: Found,

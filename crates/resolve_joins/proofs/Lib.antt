@@ -1,0 +1,3 @@
+-- Facts for joins.
+pub mod Backwards
+pub mod Picking

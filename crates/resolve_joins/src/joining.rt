@@ -1,0 +1,199 @@
+ghost use Rattle.std.specs.Prelude.{◌≡◌, ◌≢◌, ◌++◌, ℕ, pos, nat_eq, length, codes, Some, IfOk, IfErr, OnOk, Ok, Err};
+ghost use Rattle.std.specs.Option.{option_copied};
+ghost use Rattle.resolve_names.specs.declared.error.ResolveStop.TheVariants.{OutOfMemory as no_memory};
+ghost use Rattle.resolve_names.specs.Checks.{or_refused};
+ghost use Rattle.resolve_types.specs.Calls.{unless};
+ghost use Rattle.resolve_expressions.specs.Outputs as outputs;
+ghost use Rattle.resolve_expressions.specs.Stars as stars;
+ghost use Rattle.resolve_relations.specs.Columns as columns_of;
+ghost use Rattle.resolve_relations.specs.Making as making;
+ghost use Rattle.resolve_joins.specs.Joins as rules;
+ghost use Rattle.resolve_joins.specs.Keys as keys_of;
+
+use crate::equalities::all_equal;
+use crate::key_columns::using_items;
+use crate::keys::{KeyPair, key_pairs};
+use crate::kinds::{clash, kind_numbered, kind_without};
+use crate::sides::{both_columns, both_relations, joined, joined_columns, joined_with};
+use cn_base::{List, Text};
+use expression_messages::Expr;
+use plan_model::{JoinKind, TypedExpr};
+use resolve_expressions::{Item, Names, condition_of};
+use resolve_names::{ResolveStop, ScopeColumn};
+use resolve_relations::{Found, bad_option, column_limit, projection, short_place};
+use std::alloc::Global;
+
+/// The pairs of the rows of two relations, by a condition over both or by keys, which are columns of the same names. The columns are the
+/// left's and then the right's; of a semi and an anti join the left's alone. Keys come first, once, and then the other columns. The first of
+/// these errors decides: Unsupported for a join type without a meaning; Unsupported `option 0` for keys beside a condition, or either in a
+/// cross join; those of the condition, DatatypeMismatch `join` where it isn't boolean; of each key UnresolvedColumn and AmbiguousReference on
+/// the left and then on the right, and DatatypeMismatch `join`; TooManyColumns of a join by keys.
+#[tactic(auto, unfolding(crate::specs::Joins::join_rule))]
+pub fn join(
+    alloc: Global,
+    case_sensitive: bool,
+    base: u64,
+    left: Found,
+    right: Found,
+    join_type: i32,
+    condition: Option<&Expr>,
+    using_columns: &[Text],
+) -> Result<Found, ResolveStop>
+    ensures ok { IfOk result (λ found. rules.join_rule nat_eq case_sensitive (columns_of.ids_from base) left right join_type (option_copied condition.entry) using_columns.now ≡ Ok found) }
+    ensures refused { IfErr result (λ e. e ≢ no_memory → rules.join_rule nat_eq case_sensitive (columns_of.ids_from base) left right join_type (option_copied condition.entry) using_columns.now ≡ Err e) }
+{
+    let kind = join_kind(alloc, join_type)?;
+    no_clash(alloc, kind, condition.is_some(), !using_columns.is_empty())?;
+    if using_columns.is_empty() {
+        on_condition(alloc, case_sensitive, kind, left, right, condition)
+    } else {
+        on_keys(alloc, case_sensitive, base, kind, left, right, using_columns)
+    }
+}
+
+fn join_kind(alloc: Global, number: i32) -> Result<JoinKind, ResolveStop>
+    ensures ok { IfOk result (λ kind. or_refused (making.bad_option number) (rules.kind_numbered number) ≡ Ok kind) }
+    ensures refused { IfErr result (λ e. e ≢ no_memory → or_refused {A = JoinKind} (making.bad_option number) (rules.kind_numbered number) ≡ Err e) }
+{
+    match kind_numbered(number) {
+        Some(kind) => Ok(kind),
+        None => Err(bad_option(alloc, number)),
+    }
+}
+
+fn no_clash(
+    alloc: Global,
+    kind: JoinKind,
+    conditioned: bool,
+    keyed: bool,
+) -> Result<(), ResolveStop>
+    ensures ok { OnOk result (unless (rules.clash kind conditioned keyed) (making.bad_option (pos 0)) ≡ Ok tt) }
+    ensures refused { IfErr result (λ e. e ≢ no_memory → unless (rules.clash kind conditioned keyed) (making.bad_option (pos 0)) ≡ Err e) }
+{
+    if clash(kind, conditioned, keyed) {
+        return Err(bad_option(alloc, 0));
+    }
+    Ok(())
+}
+
+/// A join with a condition, or without one.
+#[tactic(auto, unfolding(crate::specs::Joins::on_rule))]
+fn on_condition(
+    alloc: Global,
+    case_sensitive: bool,
+    kind: JoinKind,
+    left: Found,
+    right: Found,
+    condition: Option<&Expr>,
+) -> Result<Found, ResolveStop>
+    ensures ok { IfOk result (λ found. rules.on_rule nat_eq case_sensitive kind left right (option_copied condition.entry) ≡ Ok found) }
+    ensures refused { IfErr result (λ e. e ≢ no_memory → rules.on_rule nat_eq case_sensitive kind left right (option_copied condition.entry) ≡ Err e) }
+{
+    match condition {
+        Some(condition) => conditioned(alloc, case_sensitive, kind, left, right, condition),
+        None => joined(alloc, kind_without(kind), left, right, None),
+    }
+}
+
+#[tactic(auto, unfolding(crate::specs::Joins::on_rule))]
+fn conditioned(
+    alloc: Global,
+    case_sensitive: bool,
+    kind: JoinKind,
+    left: Found,
+    right: Found,
+    condition: &Expr,
+) -> Result<Found, ResolveStop>
+    ensures ok { IfOk result (λ found. rules.on_rule nat_eq case_sensitive kind left right (Some condition.now) ≡ Ok found) }
+    ensures refused { IfErr result (λ e. e ≢ no_memory → rules.on_rule nat_eq case_sensitive kind left right (Some condition.now) ≡ Err e) }
+{
+    let test = join_test(alloc, case_sensitive, &left, &right, condition)?;
+    joined(alloc, kind, left, right, Some(test))
+}
+
+/// The condition over the columns of both relations.
+fn join_test(
+    alloc: Global,
+    case_sensitive: bool,
+    left: &Found,
+    right: &Found,
+    condition: &Expr,
+) -> Result<TypedExpr, ResolveStop>
+    ensures ok { IfOk result (λ test. outputs.condition_of nat_eq case_sensitive (left.now.columns ++ right.now.columns) (left.now.relations ++ right.now.relations) (codes "join") condition.now ≡ Ok test) }
+    ensures refused { IfErr result (λ e. e ≢ no_memory → outputs.condition_of nat_eq case_sensitive (left.now.columns ++ right.now.columns) (left.now.relations ++ right.now.relations) (codes "join") condition.now ≡ Err e) }
+{
+    let columns = both_columns(alloc, left.columns.as_slice(), right.columns.as_slice())?;
+    let relations = both_relations(alloc, left.relations.as_slice(), right.relations.as_slice())?;
+    let names = Names {
+        case_sensitive,
+        columns: columns.as_slice(),
+        relations: relations.as_slice(),
+    };
+    condition_of(alloc, &names, "join", condition)
+}
+
+/// A join by the keys of these names.
+#[tactic(auto, unfolding(crate::specs::Joins::using_rule))]
+fn on_keys(
+    alloc: Global,
+    case_sensitive: bool,
+    base: u64,
+    kind: JoinKind,
+    left: Found,
+    right: Found,
+    names: &[Text],
+) -> Result<Found, ResolveStop>
+    ensures ok { IfOk result (λ found. rules.using_rule nat_eq case_sensitive (columns_of.ids_from base) kind left right names.now ≡ Ok found) }
+    ensures refused { IfErr result (λ e. e ≢ no_memory → rules.using_rule nat_eq case_sensitive (columns_of.ids_from base) kind left right names.now ≡ Err e) }
+{
+    let keys = key_pairs(
+        alloc,
+        case_sensitive,
+        left.columns.as_slice(),
+        right.columns.as_slice(),
+        names,
+    )?;
+    keyed(alloc, base, kind, left, right, keys.as_slice())
+}
+
+/// The number of columns is judged before the condition is made, which is as deep as there are keys.
+fn keyed(
+    alloc: Global,
+    base: u64,
+    kind: JoinKind,
+    left: Found,
+    right: Found,
+    keys: &[KeyPair],
+) -> Result<Found, ResolveStop>
+    ensures ok { IfOk result (λ found. rules.keyed (columns_of.ids_from base) kind (length left.columns) (rules.joined kind left right (keys_of.all_equal (length left.columns) keys.now)) keys.now ≡ Ok found) }
+    ensures refused { IfErr result (λ e. e ≢ no_memory → rules.keyed (columns_of.ids_from base) kind (length left.columns) (rules.joined kind left right (keys_of.all_equal (length left.columns) keys.now)) keys.now ≡ Err e) }
+{
+    let width = short_place(left.columns.as_slice().len())?;
+    let columns = joined_columns(
+        alloc,
+        kind,
+        left.columns.as_slice(),
+        right.columns.as_slice(),
+    )?;
+    let items = some_columns(alloc, kind, width, keys, columns.as_slice())?;
+    let test = all_equal(alloc, width, keys)?;
+    let pairs = joined_with(alloc, kind, columns, left, right, test)?;
+    projection(alloc, base, pairs, items)
+}
+
+/// The columns of a join by keys, where they are as few as they may be.
+fn some_columns(
+    alloc: Global,
+    kind: JoinKind,
+    width: u32,
+    keys: &[KeyPair],
+    columns: &[ScopeColumn],
+) -> Result<List<Item>, ResolveStop>
+    ensures counted { OnOk result (columns_of.column_limit (length (keys_of.using_items kind width keys.now (stars.items_where stars.any_column 0 columns.now))) ≡ Ok tt) }
+    ensures made { IfOk result (λ items. items ≡ keys_of.using_items kind width keys.now (stars.items_where stars.any_column 0 columns.now)) }
+    ensures refused { IfErr result (λ e. e ≢ no_memory → columns_of.column_limit (length (keys_of.using_items kind width keys.now (stars.items_where stars.any_column 0 columns.now))) ≡ Err e) }
+{
+    let items = using_items(alloc, kind, width, keys, columns)?;
+    column_limit(alloc, items.as_slice().len())?;
+    Ok(items)
+}
