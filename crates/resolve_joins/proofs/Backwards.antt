@@ -9,7 +9,7 @@ use Rattle.resolve_joins.specs.Keys.{all_equal, are_equal, both}
 module _ (width : ℕ) (keys : List KeyPair) where
   pub back_start : None ≡ all_equal width (drop (length keys) keys)
   unfolding all_equal
-  back_start = sym (ap (all_equal width) (drop_of_length-le keys arith))
+  back_start = sym (ap (all_equal width) (drop_of_length-le keys (omega arith)))
 
   pub back_more : (at : ℕ) (key : KeyPair) (test : TypedExpr) (rest : Option TypedExpr) → 0 < at → at ≤ length keys → key ≡ get_or keys (at - 1) key →
       rest ≡ all_equal width (drop at keys) → test ≡ both (are_equal width key) rest → Some test ≡ all_equal width (drop (at - 1) keys)

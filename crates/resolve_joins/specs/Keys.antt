@@ -74,9 +74,13 @@ abbrev pub is_at : ℕ → Option ℕ → Bool
 is_at place (Some source) = nat_eq source place
 is_at place None = false
 
+-- a column that is a key's on one side
+unfoldable pub is_of_key : ℕ → Option ℕ → KeyPair → Bool
+is_of_key width source key = is_at key.left source || is_at (width + key.right) source
+
 -- a column that is no key's, neither of the left nor of the right
 abbrev pub is_rest : ℕ → List KeyPair → Item → Bool
-is_rest width keys item = not (list_any (λ key. is_at key.left item.source || is_at (width + key.right) item.source) keys)
+is_rest width keys item = not (list_any (is_of_key width item.source) keys)
 
 -- the keys, and then the other columns as they are
 unfoldable pub using_items : JoinKind → ℕ → List KeyPair → List Item → List Item

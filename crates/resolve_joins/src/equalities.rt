@@ -9,7 +9,7 @@ use plan_model::{Function, TypedExpr};
 use std::alloc::Global;
 
 /// That each key is the same on both sides; none of no keys.
-#[tactic(auto, unfolding(crate::specs::Keys::all_equal), using(crate::proofs::Backwards::back_steps))]
+#[tactic(auto, using(crate::proofs::Backwards::back_steps))]
 pub(crate) fn all_equal(
     alloc: Global,
     width: u32,

@@ -1,4 +1,5 @@
-ghost use Rattle.std.specs.Prelude.{◌≡◌, ◌+◌, ◌||◌, ◌++◌, filter, filter_map, slice_get, option_map, option_to_list, IfOk, OnOk};
+ghost use Rattle.std.specs.Prelude.{◌≡◌, ◌++◌, filter, filter_map, slice_get, option_map, option_to_list, IfOk, OnOk};
+ghost use Rattle.std.specs.List.{list_any};
 ghost use Rattle.resolve_expressions.specs.Stars as stars;
 ghost use Rattle.resolve_joins.specs.Keys as rules;
 
@@ -149,11 +150,18 @@ fn rest_items(
 fn is_rest(width: u32, keys: &[KeyPair], item: &Item) -> bool
     ensures { result ≡ rules.is_rest width keys.now item.now }
 {
-    !keys.iter().any(|key| is_of_key(width, key, item.source))
+    !is_of_keys(width, item.source, keys)
 }
 
-fn is_of_key(width: u32, key: &KeyPair, source: Option<u32>) -> bool
-    ensures { result ≡ (rules.is_at key.now.left source || rules.is_at (width + key.now.right) source) }
+fn is_of_keys(width: u32, source: Option<u32>, keys: &[KeyPair]) -> bool
+    ensures { result ≡ list_any (rules.is_of_key width source) keys.now }
+{
+    keys.iter().any(|key| is_of_key(width, source, key))
+}
+
+#[tactic(auto, unfolding(crate::specs::Keys::is_of_key))]
+fn is_of_key(width: u32, source: Option<u32>, key: &KeyPair) -> bool
+    ensures { result ≡ rules.is_of_key width source key.now }
 {
     match source {
         Some(place) => {

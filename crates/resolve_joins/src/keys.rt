@@ -1,7 +1,9 @@
-ghost use Rattle.std.specs.Prelude.{◌≡◌, ◌≢◌, map, IfOk, IfErr, Ok, Err};
+ghost use Rattle.std.specs.Prelude.{◌≡◌, ◌≢◌, map, slice_get, codes, IfOk, IfErr, Ok, Err};
 ghost use Rattle.std.specs.Option.{option_copied};
 ghost use Rattle.plan_model.specs.FunctionTypes as types;
 ghost use Rattle.resolve_names.specs.declared.error.ResolveStop.TheVariants.{OutOfMemory as no_memory};
+ghost use Rattle.resolve_names.specs.Checks.{or_refused};
+ghost use Rattle.resolve_functions.specs.Arguments.{mismatch};
 ghost use Rattle.resolve_expressions.specs.Grouping.{all_checked};
 ghost use Rattle.resolve_joins.specs.Keys as rules;
 
@@ -59,9 +61,29 @@ fn key_pair(
 {
     let on_left = short_place(plain_place(alloc, case_sensitive, left, name)?)?;
     let on_right = short_place(plain_place(alloc, case_sensitive, right, name)?)?;
-    let left_column = left.get(on_left as usize);
-    let right_column = right.get(on_right as usize);
-    match paired(alloc, on_left, on_right, left_column, right_column)? {
+    let left_column = column_at(left, on_left);
+    let right_column = column_at(right, on_right);
+    same_typed(alloc, on_left, on_right, left_column, right_column)
+}
+
+fn column_at(columns: &[ScopeColumn], place: u32) -> Option<&ScopeColumn>
+    ensures { option_copied result ≡ slice_get columns.now place }
+{
+    columns.get(place as usize)
+}
+
+/// Two columns as a key, else DatatypeMismatch `join`.
+fn same_typed(
+    alloc: Global,
+    left: u32,
+    right: u32,
+    left_column: Option<&ScopeColumn>,
+    right_column: Option<&ScopeColumn>,
+) -> Result<KeyPair, ResolveStop>
+    ensures ok { IfOk result (λ key. or_refused (mismatch (codes "join")) (rules.paired left right (option_copied left_column.entry) (option_copied right_column.entry)) ≡ Ok key) }
+    ensures refused { IfErr result (λ e. e ≢ no_memory → or_refused (mismatch (codes "join")) (rules.paired left right (option_copied left_column.entry) (option_copied right_column.entry)) ≡ Err e) }
+{
+    match paired(alloc, left, right, left_column, right_column)? {
         Some(key) => Ok(key),
         None => Err(analysis_stop(alloc, ErrorName::DatatypeMismatch, "join")),
     }
