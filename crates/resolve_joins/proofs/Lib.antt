@@ -1,3 +1,4 @@
 -- Facts for joins.
 pub mod Backwards
+pub mod OldColumns
 pub mod Picking

@@ -6,7 +6,9 @@ mod joining;
 mod key_columns;
 mod keys;
 mod kinds;
+mod laws;
 mod sides;
 
 pub use joining::join;
 pub use keys::KeyPair;
+pub use laws::{other_columns_are_old, semi_joins_have_the_left};
