@@ -11,15 +11,15 @@ module _ (width : ℕ) (keys : List KeyPair) where
   unfolding all_equal
   back_start = sym (ap (all_equal width) (drop_of_length-le keys (omega arith)))
 
-  pub back_more : (at : ℕ) (key : KeyPair) (test : TypedExpr) (rest : Option TypedExpr) → 0 < at → at ≤ length keys → key ≡ get_or keys (at - 1) key →
-      rest ≡ all_equal width (drop at keys) → test ≡ both (are_equal width key) rest → Some test ≡ all_equal width (drop (at - 1) keys)
+  pub back_more : (at : ℕ) (d : KeyPair) (test : TypedExpr) (rest : Option TypedExpr) → 0 < at → at ≤ length keys →
+      rest ≡ all_equal width (drop at keys) → test ≡ both (are_equal width (get_or keys (at - 1) d)) rest → Some test ≡ all_equal width (drop (at - 1) keys)
   unfolding all_equal
-  back_more at key test rest some within is before made =
+  back_more at d test rest some within before made =
       let place : at - 1 < length keys = omega arith in
       let next : suc (at - 1) ≡ at = omega arith in
+      let key = get_or keys (at - 1) d in
       let more : all_equal width (drop (at - 1) keys) ≡ Some (both (are_equal width key) (all_equal width (drop at keys)))
-        = ap (all_equal width) (drop-cons keys (at - 1) key place)
-          ∙ ap (λ (k : KeyPair). Some (both (are_equal width k) (all_equal width (drop (suc (at - 1)) keys)))) (sym is)
+        = ap (all_equal width) (drop-cons keys (at - 1) d place)
           ∙ ap (λ (n : ℕ). Some (both (are_equal width key) (all_equal width (drop n keys)))) next in
       ap Some made ∙ ap (λ (o : Option TypedExpr). Some (both (are_equal width key) o)) before ∙ sym more
 

@@ -1,7 +1,7 @@
 -- The columns of a join have the ids of the left's columns, or of the right's.
 use Rattle.std.proofs.Common.{◌≡◌, ℕ, zero, suc, ◌+◌, ◌-◌, ◌<◌, ◌≤◌, Bool, true, false, List, [], ◌∷◌, ◌++◌, map, length, get_or, drop, refl, sym, ap, ◌∙◌, subst, arith, Option, Some, None}
 use Rattle.std.specs.Prelude.{ℤ, Ok, Err, nat_eq, ◌==◌, ◌||◌, ◌&&◌, not, if◌then◌else◌, All, Contains, slice_get, option_map, option_and_then, filter, filter_map, codes, pos}
-use Rattle.core.specs.List.{cons_option}
+use Rattle.std.specs.List.{cons_option}
 use Rattle.std.proofs.lemmas.List.{append-nil, get_or-map, length-map, map-append}
 use Rattle.std.proofs.lemmas.List.Elements.{All-append, All-cons, All-drop, All-filter, All-map, All-nil, Contains-append_left, Contains-append_right}
 use Rattle.expression_messages.specs.declared.expression.Expr.{Expr}

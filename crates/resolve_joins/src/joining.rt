@@ -1,26 +1,25 @@
-ghost use Rattle.std.specs.Prelude.{◌≡◌, ◌≢◌, ◌++◌, ℕ, pos, nat_eq, length, codes, Some, IfOk, IfErr, OnOk, Ok, Err};
+ghost use Rattle.std.specs.Prelude.{◌≡◌, ◌≢◌, ◌++◌, pos, nat_eq, length, codes, Some, IfOk, IfErr, OnOk, Ok, Err};
 ghost use Rattle.std.specs.Option.{option_copied};
+ghost use Rattle.plan_model.specs.declared.node.Node.TheVariants as node;
 ghost use Rattle.resolve_names.specs.declared.error.ResolveStop.TheVariants.{OutOfMemory as no_memory};
 ghost use Rattle.resolve_names.specs.Checks.{or_refused};
 ghost use Rattle.resolve_types.specs.Calls.{unless};
 ghost use Rattle.resolve_expressions.specs.Outputs as outputs;
-ghost use Rattle.resolve_expressions.specs.Stars as stars;
 ghost use Rattle.resolve_relations.specs.Columns as columns_of;
 ghost use Rattle.resolve_relations.specs.Making as making;
 ghost use Rattle.resolve_joins.specs.Joins as rules;
 ghost use Rattle.resolve_joins.specs.Keys as keys_of;
 
-use crate::equalities::all_equal;
-use crate::key_columns::using_items;
+use crate::keyed_parts::{KeyedParts, keyed_parts};
 use crate::keys::{KeyPair, key_pairs};
 use crate::kinds::{clash, kind_numbered, kind_without};
-use crate::sides::{both_columns, both_relations, joined, joined_columns, joined_with};
-use cn_base::{List, Text};
+use crate::sides::{both_columns, both_relations, joined, joined_with};
+use cn_base::Text;
 use expression_messages::Expr;
 use plan_model::{JoinKind, TypedExpr};
-use resolve_expressions::{Item, Names, condition_of};
-use resolve_names::{ResolveStop, ScopeColumn};
-use resolve_relations::{Found, bad_option, column_limit, projection, short_place};
+use resolve_expressions::{Names, condition_of};
+use resolve_names::ResolveStop;
+use resolve_relations::{Found, bad_option, projection};
 use std::alloc::Global;
 
 /// The pairs of the rows of two relations, by a condition over both or by keys, which are columns of the same names. The columns are the
@@ -156,7 +155,6 @@ fn on_keys(
     keyed(alloc, base, kind, left, right, keys.as_slice())
 }
 
-/// The number of columns is judged before the condition is made, which is as deep as there are keys.
 fn keyed(
     alloc: Global,
     base: u64,
@@ -168,32 +166,27 @@ fn keyed(
     ensures ok { IfOk result (λ found. rules.keyed (columns_of.ids_from base) kind (length left.columns) (rules.joined kind left right (keys_of.all_equal (length left.columns) keys.now)) keys.now ≡ Ok found) }
     ensures refused { IfErr result (λ e. e ≢ no_memory → rules.keyed (columns_of.ids_from base) kind (length left.columns) (rules.joined kind left right (keys_of.all_equal (length left.columns) keys.now)) keys.now ≡ Err e) }
 {
-    let width = short_place(left.columns.as_slice().len())?;
-    let columns = joined_columns(
-        alloc,
-        kind,
-        left.columns.as_slice(),
-        right.columns.as_slice(),
-    )?;
-    let items = some_columns(alloc, kind, width, keys, columns.as_slice())?;
-    let test = all_equal(alloc, width, keys)?;
-    let pairs = joined_with(alloc, kind, columns, left, right, test)?;
-    projection(alloc, base, pairs, items)
+    let parts = keyed_parts(alloc, kind, left.columns.as_slice(), right.columns.as_slice(), keys)?;
+    keyed_pairs(alloc, base, kind, left, right, parts)
 }
 
-/// The columns of a join by keys, where they are as few as they may be.
-fn some_columns(
+/// The pairs' columns and condition, and the columns over them.
+fn keyed_pairs(
     alloc: Global,
+    base: u64,
     kind: JoinKind,
-    width: u32,
-    keys: &[KeyPair],
-    columns: &[ScopeColumn],
-) -> Result<List<Item>, ResolveStop>
-    ensures counted { OnOk result (columns_of.column_limit (length (keys_of.using_items kind width keys.now (stars.items_where stars.any_column 0 columns.now))) ≡ Ok tt) }
-    ensures made { IfOk result (λ items. items ≡ keys_of.using_items kind width keys.now (stars.items_where stars.any_column 0 columns.now)) }
-    ensures refused { IfErr result (λ e. e ≢ no_memory → columns_of.column_limit (length (keys_of.using_items kind width keys.now (stars.items_where stars.any_column 0 columns.now))) ≡ Err e) }
+    left: Found,
+    right: Found,
+    parts: KeyedParts,
+) -> Result<Found, ResolveStop>
+    ensures ok { IfOk result (λ found. found ≡ columns_of.projection (columns_of.ids_from base) (record { node = node.Join left.node right.node kind parts.test; columns = parts.columns; relations = left.relations ++ right.relations }) parts.items) }
+    ensures refused { IfErr result (λ e. e ≡ no_memory) }
 {
-    let items = using_items(alloc, kind, width, keys, columns)?;
-    column_limit(alloc, items.as_slice().len())?;
-    Ok(items)
+    let KeyedParts {
+        columns,
+        items,
+        test,
+    } = parts;
+    let pairs = joined_with(alloc, kind, columns, left, right, test)?;
+    projection(alloc, base, pairs, items)
 }

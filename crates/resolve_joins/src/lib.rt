@@ -4,10 +4,13 @@
 mod equalities;
 mod joining;
 mod key_columns;
+mod keyed_parts;
 mod keys;
 mod kinds;
 mod laws;
 mod sides;
+#[cfg(test)]
+mod tests;
 
 pub use joining::join;
 pub use keys::KeyPair;
