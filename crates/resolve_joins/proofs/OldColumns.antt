@@ -9,12 +9,13 @@ use Rattle.plan_model.specs.declared.node.JoinKind.{JoinKind}
 use Rattle.plan_model.specs.declared.node.JoinKind.TheVariants as kind
 use Rattle.resolve_names.specs.declared.scope.ColumnOf.{ColumnOf}
 use Rattle.resolve_names.specs.Checks.{Checked, ◌>>=◌, or_refused}
+use Rattle.resolve_names.specs.Refusals.{Refusal}
 use Rattle.resolve_types.specs.Calls.{unless}
 use Rattle.resolve_expressions.specs.declared.item.Item.{Item}
 use Rattle.resolve_expressions.specs.Grouping.{all_checked}
 use Rattle.resolve_expressions.specs.Outputs.{condition_of}
 use Rattle.resolve_expressions.specs.Stars.{any_column, items_where}
-use Rattle.resolve_expressions.proofs.TypedFacts.{bind_ok, found_ok, same_ok}
+use Rattle.resolve_expressions.proofs.TypedFacts.{bind_ok, same_ok}
 use Rattle.resolve_relations.specs.declared.found.FoundOf.{FoundOf}
 use Rattle.resolve_relations.specs.Columns.{column_limit, made_by, made_column, numbered_from}
 use Rattle.resolve_relations.specs.Making.{bad_option}
@@ -22,6 +23,10 @@ use Rattle.resolve_joins.specs.declared.keys.KeyPair.{KeyPair}
 use Rattle.resolve_joins.specs.Joins.{clash, has_left_nulls, has_right_nulls, is_there, join_rule, joined_columns, keyed, kind_numbered, kind_without, on_rule, perhaps_null, side_columns, using_rule}
 use Rattle.resolve_joins.specs.Keys.{all_equal, is_rest, key_item, key_pair, using_items}
 use Rattle.resolve_joins.specs.Laws.{OtherColumnsAreOld, SemiJoinsHaveTheLeft, ids, ids_of, new_columns}
+
+there : {A : Type 0} (why : Refusal) (o : Option A) (x : A) → or_refused why o ≡ Ok x → o ≡ Some x
+there why (Some y) x e = ap Some (same_ok y x e)
+there why None x e = absurd (let h : ⊥ = cc in h)
 
 abbrev Columns : Type 0
 Columns = List (ColumnOf ℕ)
@@ -70,7 +75,7 @@ without_old kind.Cross left right = joined_old kind.Cross left right
 
 -- ---- items that are columns of the pairs
 
-IsSourced : Columns → Item → Type 0
+abbrev IsSourced : Columns → Item → Type 0
 IsSourced columns item = (column : ColumnOf ℕ) × (option_and_then (slice_get columns) item.source ≡ Some column)
 
 at_drop : (n : ℕ) (columns : Columns) (x : ColumnOf ℕ) (rest : Columns) → drop n columns ≡ x ∷ rest →
@@ -93,19 +98,19 @@ get_held P (y ∷ ys) (suc at) x held e = get_held P ys at x (λ k d within. hel
 
 picked_held : {X Y : Type 0} (P : Y → Type 0) (f : X → Option Y) (xs : List X) → ((x : X) (y : Y) → f x ≡ Some y → P y) → All P (filter_map f xs)
 picked_held P f [] each = All-nil P
-picked_held P f (x ∷ xs) each = by (f x) refl
+picked_held {X} {Y} P f (x ∷ xs) each = by (f x) refl (picked_held P f xs each)
   where
-    by : (o : Option _) → f x ≡ o → All P (cons_option o (filter_map f xs))
-    by None e = picked_held P f xs each
-    by (Some y) e = All-cons P y (filter_map f xs) (each x y e) (picked_held P f xs each)
+    by : (o : Option Y) → f x ≡ o → All P (filter_map f xs) → All P (cons_option o (filter_map f xs))
+    by None e rest = rest
+    by (Some y) e rest = All-cons P y (filter_map f xs) (each x y e) rest
 
 picked_short : {X Y : Type 0} (f : X → Option Y) (xs : List X) → length (filter_map f xs) ≤ length xs
 picked_short f [] = omega arith
-picked_short f (x ∷ xs) = by (f x)
+picked_short {X} {Y} f (x ∷ xs) = by (f x) (picked_short f xs)
   where
-    by : (o : Option _) → length (cons_option o (filter_map f xs)) ≤ suc (length xs)
-    by None = omega (arith, picked_short f xs)
-    by (Some y) = omega (arith, picked_short f xs)
+    by : (o : Option Y) → length (filter_map f xs) ≤ length xs → length (cons_option o (filter_map f xs)) ≤ suc (length xs)
+    by None rest = omega (arith, rest)
+    by (Some y) rest = omega (arith, rest)
 
 -- ---- the columns that items make
 
@@ -223,7 +228,7 @@ module _ (exact : Bool) (fresh : ℕ → ℕ) (left right found : FoundOf ℕ) w
   unfolding join_rule
   rule_old number condition names kind is e =
       let its = bind_ok (or_refused (bad_option number) (kind_numbered number)) _ found e in
-      let same : its.0 ≡ kind = same_some its.0 kind (sym (found_ok (bad_option number) (kind_numbered number) its.0 its.1) ∙ is) in
+      let same : its.0 ≡ kind = same_some its.0 kind (sym (there (bad_option number) (kind_numbered number) its.0 its.1) ∙ is) in
       let fits = bind_ok (unless (clash its.0 (is_there condition) (not (length names == 0))) (bad_option (pos 0))) _ found its.2 in
       subst (λ (k : JoinKind). AreOld k (drop (new_columns k names) found.columns)) same (either its.0 (length names == 0) fits.2)
     where
@@ -233,7 +238,7 @@ module _ (exact : Bool) (fresh : ℕ → ℕ) (left right found : FoundOf ℕ) w
       either : (k : JoinKind) (b : Bool) →
           (if b then on_rule nat_eq exact k left right condition else using_rule nat_eq exact fresh k left right names) ≡ Ok found →
           AreOld k (drop (new_columns k names) found.columns)
-      either k true h = All-drop _ (new_columns k names) found.columns (on_old k condition h)
+      either k true h = All-drop (IsOld (ids_of k (ids left.columns) (ids right.columns))) (new_columns k names) found.columns (on_old k condition h)
       either k false h = keys_old k names h
 
 pub other_columns_are_old : OtherColumnsAreOld
@@ -270,7 +275,7 @@ module _ (exact : Bool) (fresh : ℕ → ℕ) (left right found : FoundOf ℕ) w
   unfolding join_rule
   semi_rule number condition is e =
       let its = bind_ok (or_refused (bad_option number) (kind_numbered number)) _ found e in
-      let same : its.0 ≡ kind.Semi = same_some its.0 kind.Semi (sym (found_ok (bad_option number) (kind_numbered number) its.0 its.1) ∙ is) in
+      let same : its.0 ≡ kind.Semi = same_some its.0 kind.Semi (sym (there (bad_option number) (kind_numbered number) its.0 its.1) ∙ is) in
       let fits = bind_ok (unless (clash its.0 (is_there condition) false) (bad_option (pos 0))) _ found its.2 in
       semi_on condition (subst (λ (k : JoinKind). on_rule nat_eq exact k left right condition ≡ Ok found) same fits.2)
     where

@@ -1,4 +1,4 @@
-ghost use Rattle.std.specs.Prelude.{◌≡◌, ◌≢◌, ◌++◌, pos, nat_eq, length, codes, Some, IfOk, IfErr, OnOk, Ok, Err};
+ghost use Rattle.std.specs.Prelude.{◌≡◌, ◌≢◌, ◌++◌, ◌==◌, not, if◌then◌else◌, pos, nat_eq, length, codes, Some, IfOk, IfErr, OnOk, Ok, Err};
 ghost use Rattle.std.specs.Option.{option_copied};
 ghost use Rattle.plan_model.specs.declared.node.Node.TheVariants as node;
 ghost use Rattle.resolve_names.specs.declared.error.ResolveStop.TheVariants.{OutOfMemory as no_memory};
@@ -42,11 +42,48 @@ pub fn join(
     ensures refused { IfErr result (λ e. e ≢ no_memory → rules.join_rule nat_eq case_sensitive (columns_of.ids_from base) left right join_type (option_copied condition.entry) using_columns.now ≡ Err e) }
 {
     let kind = join_kind(alloc, join_type)?;
-    no_clash(alloc, kind, condition.is_some(), !using_columns.is_empty())?;
-    if using_columns.is_empty() {
+    no_clash(alloc, kind, is_there(condition), is_keyed(using_columns))?;
+    matched(
+        alloc,
+        case_sensitive,
+        base,
+        kind,
+        left,
+        right,
+        condition,
+        using_columns,
+    )
+}
+
+fn is_there(condition: Option<&Expr>) -> bool
+    ensures { result ≡ rules.is_there (option_copied condition.entry) }
+{
+    condition.is_some()
+}
+
+fn is_keyed(names: &[Text]) -> bool
+    ensures { result ≡ not (length names.now == 0) }
+{
+    !names.is_empty()
+}
+
+fn matched(
+    alloc: Global,
+    case_sensitive: bool,
+    base: u64,
+    kind: JoinKind,
+    left: Found,
+    right: Found,
+    condition: Option<&Expr>,
+    names: &[Text],
+) -> Result<Found, ResolveStop>
+    ensures ok { IfOk result (λ found. (if length names.now == 0 then rules.on_rule nat_eq case_sensitive kind left right (option_copied condition.entry) else rules.using_rule nat_eq case_sensitive (columns_of.ids_from base) kind left right names.now) ≡ Ok found) }
+    ensures refused { IfErr result (λ e. e ≢ no_memory → (if length names.now == 0 then rules.on_rule nat_eq case_sensitive kind left right (option_copied condition.entry) else rules.using_rule nat_eq case_sensitive (columns_of.ids_from base) kind left right names.now) ≡ Err e) }
+{
+    if names.is_empty() {
         on_condition(alloc, case_sensitive, kind, left, right, condition)
     } else {
-        on_keys(alloc, case_sensitive, base, kind, left, right, using_columns)
+        on_keys(alloc, case_sensitive, base, kind, left, right, names)
     }
 }
 
