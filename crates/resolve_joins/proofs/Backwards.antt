@@ -1,5 +1,5 @@
 -- A condition that is made from its last key on.
-use Rattle.std.proofs.Common.{◌≡◌, ℕ, suc, ◌+◌, ◌-◌, ◌<◌, ◌≤◌, List, [], ◌∷◌, length, get_or, drop, refl, sym, ap, ◌∙◌, arith, drop-cons}
+use Rattle.std.proofs.Common.{◌≡◌, ℕ, suc, ◌-◌, ◌<◌, ◌≤◌, List, length, get_or, drop, sym, ap, ◌∙◌, arith, drop-cons}
 use Rattle.std.specs.Prelude.{Option, Some, None}
 use Rattle.std.proofs.Math.ListN.{drop_of_length-le}
 use Rattle.plan_model.specs.declared.expression.TypedExpr.{TypedExpr}
@@ -19,8 +19,8 @@ module _ (width : ℕ) (keys : List KeyPair) where
       let next : suc (at - 1) ≡ at = omega arith in
       let key = get_or keys (at - 1) d in
       let more : all_equal width (drop (at - 1) keys) ≡ Some (both (are_equal width key) (all_equal width (drop at keys)))
-        = ap (all_equal width) (drop-cons keys (at - 1) d place)
-          ∙ ap (λ (n : ℕ). Some (both (are_equal width key) (all_equal width (drop n keys)))) next in
+      = ap (all_equal width) (drop-cons keys (at - 1) d place)
+      ∙ ap (λ (n : ℕ). Some (both (are_equal width key) (all_equal width (drop n keys)))) next in
       ap Some made ∙ ap (λ (o : Option TypedExpr). Some (both (are_equal width key) o)) before ∙ sym more
 
 pub ruleset back_steps = (back_start, back_more)

@@ -1,14 +1,14 @@
 -- The columns of a join have the ids of the left's columns, or of the right's.
-use Rattle.std.proofs.Common.{◌≡◌, ℕ, zero, suc, ◌+◌, ◌-◌, ◌<◌, ◌≤◌, Bool, true, false, List, [], ◌∷◌, ◌++◌, map, length, get_or, drop, refl, sym, ap, ◌∙◌, subst, arith, Option, Some, None}
-use Rattle.std.specs.Prelude.{ℤ, Ok, Err, nat_eq, ◌==◌, ◌||◌, ◌&&◌, not, if◌then◌else◌, All, Contains, slice_get, option_map, option_and_then, filter, filter_map, codes, pos}
+use Rattle.std.proofs.Common.{◌≡◌, ℕ, zero, suc, ◌+◌, ◌<◌, ◌≤◌, Bool, true, false, List, [], ◌∷◌, ◌++◌, map, length, drop, refl, sym, ap, ◌∙◌, subst, arith, Option, Some, None}
+use Rattle.std.specs.Prelude.{ℤ, Ok, nat_eq, ◌==◌, ◌||◌, not, if◌then◌else◌, All, Contains, slice_get, option_and_then, filter, filter_map, codes, pos}
 use Rattle.std.specs.List.{cons_option}
-use Rattle.std.proofs.lemmas.List.{append-nil, get_or-map, length-map, map-append}
+use Rattle.std.proofs.lemmas.List.{append-nil, get_or-map, length-map}
 use Rattle.std.proofs.lemmas.List.Elements.{All-append, All-cons, All-drop, All-filter, All-map, All-nil, Contains-append_left, Contains-append_right}
 use Rattle.expression_messages.specs.declared.expression.Expr.{Expr}
 use Rattle.plan_model.specs.declared.node.JoinKind.{JoinKind}
 use Rattle.plan_model.specs.declared.node.JoinKind.TheVariants as kind
 use Rattle.resolve_names.specs.declared.scope.ColumnOf.{ColumnOf}
-use Rattle.resolve_names.specs.Checks.{Checked, ◌>>=◌, or_refused}
+use Rattle.resolve_names.specs.Checks.{Checked, or_refused}
 use Rattle.resolve_names.specs.Refusals.{Refusal}
 use Rattle.resolve_types.specs.Calls.{unless}
 use Rattle.resolve_expressions.specs.declared.item.Item.{Item}
@@ -20,8 +20,8 @@ use Rattle.resolve_relations.specs.declared.found.FoundOf.{FoundOf}
 use Rattle.resolve_relations.specs.Columns.{column_limit, made_by, made_column, numbered_from}
 use Rattle.resolve_relations.specs.Making.{bad_option}
 use Rattle.resolve_joins.specs.declared.keys.KeyPair.{KeyPair}
-use Rattle.resolve_joins.specs.Joins.{clash, has_left_nulls, has_right_nulls, is_there, join_rule, joined_columns, keyed, kind_numbered, kind_without, on_rule, perhaps_null, side_columns, using_rule}
-use Rattle.resolve_joins.specs.Keys.{all_equal, is_rest, key_item, key_pair, using_items}
+use Rattle.resolve_joins.specs.Joins.{clash, is_there, join_rule, joined_columns, kind_numbered, kind_without, on_rule, perhaps_null, side_columns, using_rule}
+use Rattle.resolve_joins.specs.Keys.{is_rest, key_item, key_pair, using_items}
 use Rattle.resolve_joins.specs.Laws.{OtherColumnsAreOld, SemiJoinsHaveTheLeft, ids, ids_of, new_columns}
 
 there : {A : Type 0} (why : Refusal) (o : Option A) (x : A) → or_refused why o ≡ Ok x → o ≡ Some x
@@ -37,9 +37,11 @@ IsOld known column = Contains known column.id
 -- ---- the columns of pairs
 
 own_ids : (columns : Columns) → All (IsOld (ids columns)) columns
-own_ids columns at d within =
-    (at, subst (λ (n : ℕ). at < n) (sym (length-map columns (λ (c : ColumnOf ℕ). c.id))) within,
-    get_or-map (λ (c : ColumnOf ℕ). c.id) columns at d _ within)
+own_ids columns at d within = (
+  at,
+  subst (λ (n : ℕ). at < n) (sym (length-map columns (λ (c : ColumnOf ℕ). c.id))) within,
+  get_or-map (λ (c : ColumnOf ℕ). c.id) columns at d _ within,
+)
 
 side_old : (known : List ℕ) (nulls : Bool) (columns : Columns) → All (IsOld known) columns → All (IsOld known) (side_columns nulls columns)
 side_old known nulls columns held = All-map (IsOld known) (perhaps_null nulls) columns held

@@ -203,7 +203,13 @@ fn keyed(
     ensures ok { IfOk result (λ found. rules.keyed (columns_of.ids_from base) kind (length left.columns) (rules.joined kind left right (keys_of.all_equal (length left.columns) keys.now)) keys.now ≡ Ok found) }
     ensures refused { IfErr result (λ e. e ≢ no_memory → rules.keyed (columns_of.ids_from base) kind (length left.columns) (rules.joined kind left right (keys_of.all_equal (length left.columns) keys.now)) keys.now ≡ Err e) }
 {
-    let parts = keyed_parts(alloc, kind, left.columns.as_slice(), right.columns.as_slice(), keys)?;
+    let parts = keyed_parts(
+        alloc,
+        kind,
+        left.columns.as_slice(),
+        right.columns.as_slice(),
+        keys,
+    )?;
     keyed_pairs(alloc, base, kind, left, right, parts)
 }
 

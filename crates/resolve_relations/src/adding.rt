@@ -114,11 +114,7 @@ fn copied(alloc: Global, item: &Item) -> Result<Item, OutOfMemory>
 }
 
 /// The column at a place, as it is.
-pub fn column_item(
-    alloc: Global,
-    place: u32,
-    column: &ScopeColumn,
-) -> Result<Item, OutOfMemory>
+pub fn column_item(alloc: Global, place: u32, column: &ScopeColumn) -> Result<Item, OutOfMemory>
     ensures { IfOk result (λ item. item ≡ stars.column_item place column.now) }
 {
     Ok(Item {
