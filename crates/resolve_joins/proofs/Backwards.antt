@@ -12,7 +12,8 @@ module _ (width : ℕ) (keys : List KeyPair) where
   back_start = sym (ap (all_equal width) (drop_of_length-le keys (omega arith)))
 
   pub back_more : (at : ℕ) (d : KeyPair) (test : TypedExpr) (rest : Option TypedExpr) → 0 < at → at ≤ length keys →
-      rest ≡ all_equal width (drop at keys) → test ≡ both (are_equal width (get_or keys (at - 1) d)) rest → Some test ≡ all_equal width (drop (at - 1) keys)
+      rest ≡ all_equal width (drop at keys) → test ≡ both (are_equal width (get_or keys (at - 1) d)) rest →
+      Some test ≡ all_equal width (drop (at - 1) keys)
   unfolding all_equal
   back_more at d test rest some within before made =
       let place : at - 1 < length keys = omega arith in

@@ -66,7 +66,8 @@ joined_old kind.Anti left right = left_old false left
 joined_old kind.Semi left right = left_old false left
 joined_old kind.Cross left right = both_old false false left right
 
-without_old : (kind : JoinKind) (left right : Columns) → All (IsOld (ids_of kind (ids left) (ids right))) (joined_columns (kind_without kind) left right)
+without_old : (kind : JoinKind) (left right : Columns) →
+    All (IsOld (ids_of kind (ids left) (ids right))) (joined_columns (kind_without kind) left right)
 without_old kind.Inner left right = joined_old kind.Cross left right
 without_old kind.Full left right = joined_old kind.Full left right
 without_old kind.Left left right = joined_old kind.Left left right
@@ -87,7 +88,8 @@ at_drop zero (y ∷ ys) x rest e = (ap (λ (l : Columns). slice_get l 0) e, ap (
 at_drop (suc n) [] x rest e = absurd (let h : ⊥ = cc in h)
 at_drop (suc n) (y ∷ ys) x rest e = at_drop n ys x rest e
 
-items_sourced : (columns : Columns) (n : ℕ) (rest : Columns) → drop n columns ≡ rest → All (IsSourced columns) (items_where any_column n rest)
+items_sourced : (columns : Columns) (n : ℕ) (rest : Columns) → drop n columns ≡ rest →
+    All (IsSourced columns) (items_where any_column n rest)
 items_sourced columns n [] e = All-nil (IsSourced columns)
 items_sourced columns n (x ∷ rest) e =
     let found = at_drop n columns x rest e in
@@ -98,7 +100,8 @@ get_held P [] at x held e = absurd (let h : ⊥ = cc in h)
 get_held P (y ∷ ys) zero x held e = subst P (let same : y ≡ x = cc in same) (held 0 y (omega arith))
 get_held P (y ∷ ys) (suc at) x held e = get_held P ys at x (λ k d within. held (suc k) d (omega arith)) e
 
-picked_held : {X Y : Type 0} (P : Y → Type 0) (f : X → Option Y) (xs : List X) → ((x : X) (y : Y) → f x ≡ Some y → P y) → All P (filter_map f xs)
+picked_held : {X Y : Type 0} (P : Y → Type 0) (f : X → Option Y) (xs : List X) → ((x : X) (y : Y) → f x ≡ Some y → P y) →
+    All P (filter_map f xs)
 picked_held P f [] each = All-nil P
 picked_held {X} {Y} P f (x ∷ xs) each = by (f x) refl (picked_held P f xs each)
   where
@@ -125,10 +128,12 @@ module _ (fresh : ℕ → ℕ) (columns : Columns) (known : List ℕ) (held : Al
       source_old None e = absurd (let h : ⊥ = cc in h)
       source_old (Some place) e = get_held (IsOld known) columns place column held e
 
-  all_old : (number : ℕ) (items : List Item) → All (IsSourced columns) items → All (IsOld known) (numbered_from (made_column fresh columns) number items)
+  all_old : (number : ℕ) (items : List Item) → All (IsSourced columns) items →
+      All (IsOld known) (numbered_from (made_column fresh columns) number items)
   all_old number [] sourced = All-nil (IsOld known)
   all_old number (item ∷ items) sourced =
-      All-cons (IsOld known) _ (numbered_from (made_column fresh columns) (suc number) items) (made_old number item (sourced 0 item (omega arith)))
+      All-cons (IsOld known) _ (numbered_from (made_column fresh columns) (suc number) items)
+      (made_old number item (sourced 0 item (omega arith)))
       (all_old (suc number) items (λ k d within. sourced (suc k) d (omega arith)))
 
   -- the items behind the first ones, of which there are at most so many
@@ -147,58 +152,54 @@ gathered_long f (x ∷ xs) ys e =
     let rest = bind_ok (all_checked (map f xs)) _ ys first.2 in
     ap length (sym (same_ok (first.0 ∷ rest.0) ys rest.2)) ∙ ap suc (gathered_long f xs rest.0 rest.1)
 
-module _ (fresh : ℕ → ℕ) (kind : JoinKind) (width : ℕ) (keys : List KeyPair) (columns : Columns) (known : List ℕ) (held : All (IsOld known) columns) where
+module _ (columns : Columns) where
   abbrev plain : List Item
   plain = items_where any_column 0 columns
-
-  abbrev first : List Item
-  first = filter_map (key_item kind width plain) keys
-
-  abbrev others : List Item
-  others = filter (is_rest width keys) plain
 
   plain_sourced : All (IsSourced columns) plain
   plain_sourced = items_sourced columns 0 columns refl
 
-  others_sourced : All (IsSourced columns) others
-  others_sourced = All-filter (is_rest width keys) (IsSourced columns) plain plain_sourced
-
   plain_at : (place : ℕ) (item : Item) → slice_get plain place ≡ Some item → IsSourced columns item
   plain_at place item e = get_held (IsSourced columns) plain place item plain_sourced e
 
+module _ (fresh : ℕ → ℕ) (width : ℕ) (keys : List KeyPair) (columns : Columns) (known : List ℕ) (held : All (IsOld known) columns) where
+  abbrev first : JoinKind → List Item
+  first kind = filter_map (key_item kind width (plain columns)) keys
+
+  abbrev others : List Item
+  others = filter (is_rest width keys) (plain columns)
+
+  others_sourced : All (IsSourced columns) others
+  others_sourced = All-filter (is_rest width keys) (IsSourced columns) (plain columns) (plain_sourced columns)
+
+  abbrev made : JoinKind → Columns
+  made kind = numbered_from (made_column fresh columns) 0 (using_items kind width keys (plain columns))
+
   -- where each key is a column of the pairs
-  all_keys_old : ((key : KeyPair) (item : Item) → key_item kind width plain key ≡ Some item → IsSourced columns item) →
-      All (IsOld known) (numbered_from (made_column fresh columns) 0 (using_items kind width keys plain))
+  all_keys_old : (kind : JoinKind) →
+      ((key : KeyPair) (item : Item) → key_item kind width (plain columns) key ≡ Some item → IsSourced columns item) →
+      All (IsOld known) (made kind)
   unfolding using_items
-  all_keys_old each =
-      all_old fresh columns known held 0 (first ++ others)
-      (All-append (IsSourced columns) first others (picked_held (IsSourced columns) (key_item kind width plain) keys each) others_sourced)
+  all_keys_old kind each =
+      all_old fresh columns known held 0 (first kind ++ others)
+      (All-append (IsSourced columns) (first kind) others
+      (picked_held (IsSourced columns) (key_item kind width (plain columns)) keys each) others_sourced)
 
-  behind_keys_old : (count : ℕ) → length keys ≡ count →
-      All (IsOld known) (drop count (numbered_from (made_column fresh columns) 0 (using_items kind width keys plain)))
+  behind_keys_old : (kind : JoinKind) (count : ℕ) → length keys ≡ count → All (IsOld known) (drop count (made kind))
   unfolding using_items
-  behind_keys_old count long =
-      rest_old fresh columns known held first others 0 count (omega (arith, picked_short (key_item kind width plain) keys)) others_sourced
+  behind_keys_old kind count long =
+      rest_old fresh columns known held (first kind) others 0 count
+      (omega (arith, picked_short (key_item kind width (plain columns)) keys)) others_sourced
 
--- by kinds
-using_old : (fresh : ℕ → ℕ) (kind : JoinKind) (width : ℕ) (keys : List KeyPair) (columns : Columns) (known : List ℕ) (names : List (List ℕ)) →
-    All (IsOld known) columns → length keys ≡ length names →
-    All (IsOld known)
-    (drop (new_columns kind names) (numbered_from (made_column fresh columns) 0 (using_items kind width keys (items_where any_column 0 columns))))
-using_old fresh kind.Inner width keys columns known names held long =
-    all_keys_old fresh kind.Inner width keys columns known held (λ key item e. plain_at fresh kind.Inner width keys columns known held key.left item e)
-using_old fresh kind.Full width keys columns known names held long = behind_keys_old fresh kind.Full width keys columns known held (length names) long
-using_old fresh kind.Left width keys columns known names held long =
-    all_keys_old fresh kind.Left width keys columns known held (λ key item e. plain_at fresh kind.Left width keys columns known held key.left item e)
-using_old fresh kind.Right width keys columns known names held long =
-    all_keys_old fresh kind.Right width keys columns known held
-    (λ key item e. plain_at fresh kind.Right width keys columns known held (width + key.right) item e)
-using_old fresh kind.Anti width keys columns known names held long =
-    all_keys_old fresh kind.Anti width keys columns known held (λ key item e. plain_at fresh kind.Anti width keys columns known held key.left item e)
-using_old fresh kind.Semi width keys columns known names held long =
-    all_keys_old fresh kind.Semi width keys columns known held (λ key item e. plain_at fresh kind.Semi width keys columns known held key.left item e)
-using_old fresh kind.Cross width keys columns known names held long =
-    all_keys_old fresh kind.Cross width keys columns known held (λ key item e. plain_at fresh kind.Cross width keys columns known held key.left item e)
+  using_old : (kind : JoinKind) (names : List (List ℕ)) → length keys ≡ length names →
+      All (IsOld known) (drop (new_columns kind names) (made kind))
+  using_old kind.Inner names long = all_keys_old kind.Inner (λ key. plain_at columns key.left)
+  using_old kind.Full names long = behind_keys_old kind.Full (length names) long
+  using_old kind.Left names long = all_keys_old kind.Left (λ key. plain_at columns key.left)
+  using_old kind.Right names long = all_keys_old kind.Right (λ key. plain_at columns (width + key.right))
+  using_old kind.Anti names long = all_keys_old kind.Anti (λ key. plain_at columns key.left)
+  using_old kind.Semi names long = all_keys_old kind.Semi (λ key. plain_at columns key.left)
+  using_old kind.Cross names long = all_keys_old kind.Cross (λ key. plain_at columns key.left)
 
 -- ---- the rule
 
@@ -206,11 +207,13 @@ module _ (exact : Bool) (fresh : ℕ → ℕ) (left right found : FoundOf ℕ) w
   abbrev AreOld : JoinKind → Columns → Type 0
   AreOld kind columns = All (IsOld (ids_of kind (ids left.columns) (ids right.columns))) columns
 
-  on_old : (kind : JoinKind) (condition : Option Expr) → on_rule nat_eq exact kind left right condition ≡ Ok found → AreOld kind found.columns
+  on_old : (kind : JoinKind) (condition : Option Expr) → on_rule nat_eq exact kind left right condition ≡ Ok found →
+      AreOld kind found.columns
   unfolding on_rule
   on_old kind None e = subst (λ (f : FoundOf ℕ). AreOld kind f.columns) (same_ok _ found e) (without_old kind left.columns right.columns)
   on_old kind (Some condition) e =
-      let made = bind_ok (condition_of nat_eq exact (left.columns ++ right.columns) (left.relations ++ right.relations) (codes "join") condition) _ found e in
+      let columns = left.columns ++ right.columns in
+      let made = bind_ok (condition_of nat_eq exact columns (left.relations ++ right.relations) (codes "join") condition) _ found e in
       subst (λ (f : FoundOf ℕ). AreOld kind f.columns) (same_ok _ found made.2) (joined_old kind left.columns right.columns)
 
   keys_old : (kind : JoinKind) (names : List (List ℕ)) → using_rule nat_eq exact fresh kind left right names ≡ Ok found →
@@ -222,7 +225,7 @@ module _ (exact : Bool) (fresh : ℕ → ℕ) (left right found : FoundOf ℕ) w
       let columns = joined_columns kind left.columns right.columns in
       let limited = bind_ok (column_limit (length (using_items kind width keys.0 (items_where any_column 0 columns)))) _ found keys.2 in
       subst (λ (f : FoundOf ℕ). AreOld kind (drop (new_columns kind names) f.columns)) (same_ok _ found limited.2)
-      (using_old fresh kind width keys.0 columns _ names (joined_old kind left.columns right.columns)
+      (using_old fresh width keys.0 columns _ (joined_old kind left.columns right.columns) kind names
       (gathered_long (key_pair exact left.columns right.columns) names keys.0 keys.1))
 
   rule_old : (number : ℤ) (condition : Option Expr) (names : List (List ℕ)) (kind : JoinKind) → kind_numbered number ≡ Some kind →
@@ -240,17 +243,20 @@ module _ (exact : Bool) (fresh : ℕ → ℕ) (left right found : FoundOf ℕ) w
       either : (k : JoinKind) (b : Bool) →
           (if b then on_rule nat_eq exact k left right condition else using_rule nat_eq exact fresh k left right names) ≡ Ok found →
           AreOld k (drop (new_columns k names) found.columns)
-      either k true h = All-drop (IsOld (ids_of k (ids left.columns) (ids right.columns))) (new_columns k names) found.columns (on_old k condition h)
+      either k true h =
+          All-drop (IsOld (ids_of k (ids left.columns) (ids right.columns))) (new_columns k names) found.columns (on_old k condition h)
       either k false h = keys_old k names h
 
 pub other_columns_are_old : OtherColumnsAreOld
-other_columns_are_old exact fresh left right number condition names kind found is e = rule_old exact fresh left right found number condition names kind is e
+other_columns_are_old exact fresh left right number condition names kind found is e =
+    rule_old exact fresh left right found number condition names kind is e
 
 -- ---- semi joins without keys
 
 as_it_is : (column : ColumnOf ℕ) → perhaps_null false column ≡ column
 as_it_is column =
-    ap (λ (n : Bool). record { qualifier = column.qualifier; name = column.name; id = column.id; kind = column.kind; nullable = n }) (or_false column.nullable)
+    ap (λ (n : Bool). record { qualifier = column.qualifier; name = column.name; id = column.id; kind = column.kind; nullable = n })
+    (or_false column.nullable)
   where
     or_false : (b : Bool) → (b || false) ≡ b
     or_false true = refl
@@ -258,7 +264,8 @@ as_it_is column =
 
 all_as_they_are : (columns : Columns) → side_columns false columns ≡ columns
 all_as_they_are [] = refl
-all_as_they_are (column ∷ columns) = ap (λ (c : ColumnOf ℕ). c ∷ side_columns false columns) (as_it_is column) ∙ ap (λ (l : Columns). column ∷ l) (all_as_they_are columns)
+all_as_they_are (column ∷ columns) =
+    ap (λ (c : ColumnOf ℕ). c ∷ side_columns false columns) (as_it_is column) ∙ ap (λ (l : Columns). column ∷ l) (all_as_they_are columns)
 
 semi_columns : (left right : Columns) → joined_columns kind.Semi left right ≡ left
 unfolding joined_columns
@@ -269,7 +276,8 @@ module _ (exact : Bool) (fresh : ℕ → ℕ) (left right found : FoundOf ℕ) w
   unfolding on_rule
   semi_on None e = ap (λ (f : FoundOf ℕ). f.columns) (sym (same_ok _ found e)) ∙ semi_columns left.columns right.columns
   semi_on (Some condition) e =
-      let made = bind_ok (condition_of nat_eq exact (left.columns ++ right.columns) (left.relations ++ right.relations) (codes "join") condition) _ found e in
+      let columns = left.columns ++ right.columns in
+      let made = bind_ok (condition_of nat_eq exact columns (left.relations ++ right.relations) (codes "join") condition) _ found e in
       ap (λ (f : FoundOf ℕ). f.columns) (sym (same_ok _ found made.2)) ∙ semi_columns left.columns right.columns
 
   semi_rule : (number : ℤ) (condition : Option Expr) → kind_numbered number ≡ Some kind.Semi →

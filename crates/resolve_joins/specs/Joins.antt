@@ -20,7 +20,9 @@ use Rattle.resolve_joins.specs.Keys.{all_equal, key_pair, using_items}
 
 -- the kinds, by their numbers (`relations.proto`, Join.JoinType)
 abbrev pub kinds : List (ℤ × JoinKind)
-kinds = (pos 1, kind.Inner) ∷ (pos 2, kind.Full) ∷ (pos 3, kind.Left) ∷ (pos 4, kind.Right) ∷ (pos 5, kind.Anti) ∷ (pos 6, kind.Semi) ∷ (pos 7, kind.Cross) ∷ []
+kinds =
+    (pos 1, kind.Inner) ∷ (pos 2, kind.Full) ∷ (pos 3, kind.Left) ∷ (pos 4, kind.Right)
+    ∷ (pos 5, kind.Anti) ∷ (pos 6, kind.Semi) ∷ (pos 7, kind.Cross) ∷ []
 
 unfoldable pub kind_numbered : ℤ → Option JoinKind
 kind_numbered number = option_map (λ entry. entry.1) (find (λ entry. int_eq entry.0 number) kinds)
@@ -59,14 +61,21 @@ has_right kind.Cross = true
 
 -- a column that is perhaps null where no row matches
 abbrev pub perhaps_null : {I : Type 0} → Bool → ColumnOf I → ColumnOf I
-perhaps_null nulls column = record { qualifier = column.qualifier; name = column.name; id = column.id; kind = column.kind; nullable = column.nullable || nulls }
+perhaps_null nulls column = record {
+  qualifier = column.qualifier;
+  name = column.name;
+  id = column.id;
+  kind = column.kind;
+  nullable = column.nullable || nulls;
+}
 
 abbrev pub side_columns : {I : Type 0} → Bool → List (ColumnOf I) → List (ColumnOf I)
 side_columns nulls columns = map (perhaps_null nulls) columns
 
 -- the left's columns and then the right's
 unfoldable pub joined_columns : {I : Type 0} → JoinKind → List (ColumnOf I) → List (ColumnOf I) → List (ColumnOf I)
-joined_columns kind left right = side_columns (has_left_nulls kind) left ++ (if has_right kind then side_columns (has_right_nulls kind) right else [])
+joined_columns kind left right =
+    side_columns (has_left_nulls kind) left ++ (if has_right kind then side_columns (has_right_nulls kind) right else [])
 
 -- both relations, of whose pairs the condition tells those that match; without one all do
 abbrev pub joined : {I : Type 0} → JoinKind → FoundOf I → FoundOf I → Option TypedExpr → FoundOf I
@@ -116,7 +125,8 @@ module _ {I : Type 0} (same : I → I → Bool) (exact : Bool) where
   unfoldable pub on_rule : JoinKind → FoundOf I → FoundOf I → Option Expr → Checked (FoundOf I)
   on_rule kind left right None = Ok (joined (kind_without kind) left right None)
   on_rule kind left right (Some condition) =
-      condition_of same exact (left.columns ++ right.columns) (left.relations ++ right.relations) (codes "join") condition >>= λ test. Ok (joined kind left right (Some test))
+      condition_of same exact (left.columns ++ right.columns) (left.relations ++ right.relations) (codes "join") condition
+      >>= λ test. Ok (joined kind left right (Some test))
 
   unfoldable pub using_rule : (ℕ → I) → JoinKind → FoundOf I → FoundOf I → List (List ℕ) → Checked (FoundOf I)
   using_rule fresh kind left right names = do

@@ -41,4 +41,5 @@ OtherColumnsAreOld =
 abbrev pub SemiJoinsHaveTheLeft : Type 0
 SemiJoinsHaveTheLeft =
     (exact : Bool) (fresh : ℕ → ℕ) (left right : FoundOf ℕ) (number : ℤ) (condition : Option Expr) (found : FoundOf ℕ) →
-    kind_numbered number ≡ Some kind.Semi → join_rule nat_eq exact fresh left right number condition [] ≡ Ok found → found.columns ≡ left.columns
+    kind_numbered number ≡ Some kind.Semi → join_rule nat_eq exact fresh left right number condition [] ≡ Ok found →
+    found.columns ≡ left.columns
