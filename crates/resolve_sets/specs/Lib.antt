@@ -1,3 +1,4 @@
 -- Set operations of two relations, with their columns.
 pub mod Aligning
+pub mod Flags
 pub mod Sets

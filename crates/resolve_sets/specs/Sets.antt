@@ -56,8 +56,11 @@ unfoldable pub is_whole : {I : Type 0} → List (ColumnOf I) → List TypedExpr 
 is_whole columns values = all_same (map same_expr values) (numbered own_value columns)
 
 -- a side that has just these values stays as it is
+abbrev pub side_over : {I : Type 0} → List (ColumnOf I) → Node → List TypedExpr → Node
+side_over columns input values = if is_whole columns values then input else node.Project input values
+
 unfoldable pub side : {I : Type 0} → FoundOf I → List TypedExpr → Node
-side input values = if is_whole input.columns values then input.node else node.Project input.node values
+side input values = side_over input.columns input.node values
 
 abbrev pub left_value : {I : Type 0} → List (ColumnOf I) → Aligned → TypedExpr
 left_value columns one = side_value columns one.kind one.left

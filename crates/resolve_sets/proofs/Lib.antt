@@ -1,0 +1,4 @@
+-- Facts for set operations.
+pub mod Flags
+pub mod NumberedChecks
+pub mod Whole
