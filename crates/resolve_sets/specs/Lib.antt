@@ -1,4 +1,5 @@
 -- Set operations of two relations, with their columns.
 pub mod Aligning
 pub mod Flags
+pub mod Laws
 pub mod Sets

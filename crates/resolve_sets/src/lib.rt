@@ -4,6 +4,7 @@
 mod aligned;
 mod aligning;
 mod columns;
+mod laws;
 mod options;
 mod sets;
 mod sides;
@@ -11,5 +12,6 @@ mod surplus;
 mod typing;
 
 pub use aligned::{Aligned, Places};
+pub use laws::results_begin_with_the_left;
 pub use options::SetOptions;
 pub use sets::set_operation;

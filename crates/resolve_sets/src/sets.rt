@@ -1,4 +1,4 @@
-ghost use Rattle.std.specs.Prelude.{◌≡◌, ◌≢◌, map, IfOk, IfErr, Ok, Err};
+ghost use Rattle.std.specs.Prelude.{◌≡◌, ◌≢◌, ◌++◌, map, IfOk, IfErr, Ok, Err};
 ghost use Rattle.plan_model.specs.declared.node.Node.TheVariants as node;
 ghost use Rattle.resolve_names.specs.declared.error.ResolveStop.TheVariants.{OutOfMemory as no_memory};
 ghost use Rattle.resolve_relations.specs.Columns as columns_of;
@@ -12,7 +12,7 @@ use crate::sides::{left_values, right_values, side};
 use crate::typing::with_types;
 use cn_base::{Boxed, List, OutOfMemory};
 use plan_model::{Node, SetKind};
-use resolve_names::{ColumnList, ResolveStop, ScopeColumn};
+use resolve_names::{ColumnList, ResolveStop, ScopeColumn, Tagged};
 use resolve_relations::Found;
 use std::alloc::Global;
 
@@ -82,51 +82,89 @@ fn combined(
     ensures ok { IfOk result (λ found. found ≡ sets.combined (columns_of.ids_from base) left right kind all columns.now) }
     ensures refused { IfErr result (λ e. e ≡ no_memory) }
 {
+    let made = set_columns(
+        alloc,
+        base,
+        left.columns.as_slice(),
+        right.columns.as_slice(),
+        columns,
+    )?;
+    let left = left_half(alloc, left, columns)?;
+    let right = right_half(alloc, right, columns)?;
+    both_halves(alloc, left, right, made, kind, all)
+}
+
+/// What is left of a side whose columns have become the result's.
+#[derive(Drop)]
+struct Half {
+    node: Node,
+    relations: List<Tagged<u64>>,
+}
+
+fn left_half(alloc: Global, input: Found, aligned: &[Aligned]) -> Result<Half, OutOfMemory>
+    ensures { IfOk result (λ half. half ≡ record { node = sets.side_over input.columns input.node (map (sets.left_value input.columns) aligned.now); relations = input.relations }) }
+{
     let Found {
+        node,
+        columns,
+        relations,
+    } = input;
+    let values = left_values(alloc, columns.as_slice(), aligned)?;
+    let node = side(alloc, node, columns.as_slice(), values)?;
+    Ok(Half { node, relations })
+}
+
+fn right_half(alloc: Global, input: Found, aligned: &[Aligned]) -> Result<Half, OutOfMemory>
+    ensures { IfOk result (λ half. half ≡ record { node = sets.side_over input.columns input.node (map (sets.right_value input.columns) aligned.now); relations = input.relations }) }
+{
+    let Found {
+        node,
+        columns,
+        relations,
+    } = input;
+    let values = right_values(alloc, columns.as_slice(), aligned)?;
+    let node = side(alloc, node, columns.as_slice(), values)?;
+    Ok(Half { node, relations })
+}
+
+fn both_halves(
+    alloc: Global,
+    left: Half,
+    right: Half,
+    columns: List<ScopeColumn>,
+    kind: SetKind,
+    all: bool,
+) -> Result<Found, ResolveStop>
+    ensures ok { IfOk result (λ found. found ≡ record { node = node.SetOp left.node right.node kind all; columns = columns; relations = left.relations ++ right.relations }) }
+    ensures refused { IfErr result (λ e. e ≡ no_memory) }
+{
+    let Half {
         node: left_node,
-        columns: left_columns,
-        mut relations,
+        relations: left_relations,
     } = left;
-    let Found {
+    let Half {
         node: right_node,
-        columns: right_columns,
-        relations: more,
+        relations: right_relations,
     } = right;
-    let left_columns = left_columns.as_slice();
-    let right_columns = right_columns.as_slice();
-    let made = set_columns(alloc, base, left_columns, right_columns, columns)?;
-    let left_node = left_side(alloc, left_node, left_columns, columns)?;
-    let right_node = right_side(alloc, right_node, right_columns, columns)?;
-    relations.append(more)?;
+    let relations = both_relations(left_relations, right_relations)?;
+    let columns = ColumnList::of(alloc, columns)?;
+    let node = set_node(alloc, left_node, right_node, kind, all)?;
     Ok(Found {
-        node: set_node(alloc, left_node, right_node, kind, all)?,
-        columns: ColumnList::of(alloc, made)?,
+        node,
+        columns,
         relations,
     })
 }
 
-fn left_side(
-    alloc: Global,
-    node: Node,
-    columns: &[ScopeColumn],
-    aligned: &[Aligned],
-) -> Result<Node, OutOfMemory>
-    ensures { IfOk result (λ made. made ≡ sets.side_over columns.now node (map (sets.left_value columns.now) aligned.now)) }
+fn both_relations(
+    left: List<Tagged<u64>>,
+    right: List<Tagged<u64>>,
+) -> Result<List<Tagged<u64>>, OutOfMemory>
+    ensures { IfOk result (λ both. both ≡ left ++ right) }
 {
-    let values = left_values(alloc, columns, aligned)?;
-    side(alloc, node, columns, values)
-}
-
-fn right_side(
-    alloc: Global,
-    node: Node,
-    columns: &[ScopeColumn],
-    aligned: &[Aligned],
-) -> Result<Node, OutOfMemory>
-    ensures { IfOk result (λ made. made ≡ sets.side_over columns.now node (map (sets.right_value columns.now) aligned.now)) }
-{
-    let values = right_values(alloc, columns, aligned)?;
-    side(alloc, node, columns, values)
+    let mut both = left;
+    both.append(right)?;
+    Ok(both)
 }
 
 fn set_node(
