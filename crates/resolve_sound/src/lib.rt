@@ -10,9 +10,10 @@ pub use laws::{
     projections_are_sound, renamed_relations_are_sound, tested_relations_are_sound,
 };
 pub use null_laws::{
-    aggregates_tell_nulls, fewer_columns_tell_nulls, kept_relations_tell_nulls, leaves_tell_nulls,
-    projections_tell_nulls, renamed_relations_tell_nulls, tested_relations_tell_nulls,
+    aggregates_are_null_safe, fewer_columns_are_null_safe, kept_relations_are_null_safe,
+    leaves_are_null_safe, projections_are_null_safe, renamed_relations_are_null_safe,
+    tested_relations_are_null_safe,
 };
 pub use pair_laws::{
-    joins_are_sound, joins_tell_nulls, set_operations_are_sound, set_operations_tell_nulls,
+    joins_are_null_safe, joins_are_sound, set_operations_are_null_safe, set_operations_are_sound,
 };

@@ -1,37 +1,37 @@
 ghost use Rattle.resolve_sound.specs.Laws.{AggregatesAre, FewerColumnsAre, KeptRelationsAre, LeavesAre, ProjectionsAre, RenamedRelationsAre, TestedRelationsAre};
 ghost use Rattle.resolve_sound.specs.Sound.{HaveSafeRows, IsNullSafe};
 
-/// Law: `limit`, `offset`, an alias and `deduplicate` keep the nulls of a relation where its columns may have them.
-pub fn kept_relations_tell_nulls<I>()
+/// Law: `limit`, `offset`, an alias and `deduplicate` keep a relation null-safe: no null stands in a column that is never null.
+pub fn kept_relations_are_null_safe<I>()
     ensures { KeptRelationsAre I IsNullSafe }
 {}
 
-/// Law: so do `filter` and `sort`.
-pub fn tested_relations_tell_nulls()
+/// Law: `filter` and `sort` keep a relation null-safe.
+pub fn tested_relations_are_null_safe()
     ensures { TestedRelationsAre IsNullSafe }
 {}
 
-/// Law: a range has no null, and the table that is read has them where its schema says so.
-pub fn leaves_tell_nulls<I>()
+/// Law: a range is null-safe, and the table that is read where the tables have nulls only where their schemas say so.
+pub fn leaves_are_null_safe<I>()
     ensures { LeavesAre I HaveSafeRows IsNullSafe }
 {}
 
-/// Law: a relation under other names has nulls where its columns may have them.
-pub fn renamed_relations_tell_nulls<I>()
+/// Law: a relation stays null-safe under other names.
+pub fn renamed_relations_are_null_safe<I>()
     ensures { RenamedRelationsAre I IsNullSafe }
 {}
 
-/// Law: so has a relation without some of its columns.
-pub fn fewer_columns_tell_nulls<I>()
+/// Law: a relation stays null-safe without some of its columns.
+pub fn fewer_columns_are_null_safe<I>()
     ensures { FewerColumnsAre I IsNullSafe }
 {}
 
-/// Law: so has a projection, and a relation with more columns.
-pub fn projections_tell_nulls()
+/// Law: a projection of a null-safe relation is null-safe, and a null-safe relation with more columns.
+pub fn projections_are_null_safe()
     ensures { ProjectionsAre IsNullSafe }
 {}
 
-/// Law: so has an aggregate.
-pub fn aggregates_tell_nulls()
+/// Law: an aggregate of a null-safe relation is null-safe.
+pub fn aggregates_are_null_safe()
     ensures { AggregatesAre IsNullSafe }
 {}

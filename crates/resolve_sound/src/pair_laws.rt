@@ -11,12 +11,12 @@ pub fn set_operations_are_sound<I>()
     ensures { SetOperationsAre I IsSoundFound }
 {}
 
-/// Law: a join has nulls where its columns may have them.
-pub fn joins_tell_nulls()
+/// Law: a join of null-safe relations is null-safe: what an outer join adds stands in columns that may be null.
+pub fn joins_are_null_safe()
     ensures { JoinsAre IsNullSafe }
 {}
 
-/// Law: so has a set operation.
-pub fn set_operations_tell_nulls<I>()
+/// Law: a set operation of null-safe relations is null-safe.
+pub fn set_operations_are_null_safe<I>()
     ensures { SetOperationsAre I IsNullSafe }
 {}

@@ -1,5 +1,5 @@
 use Rattle.resolve_sound.proofs.NullRelations.{kept_are_safe}
-use Rattle.resolve_sound.proofs.null_laws.kept_relations_tell_nulls.Goals as goal
+use Rattle.resolve_sound.proofs.null_laws.kept_relations_are_null_safe.Goals as goal
 
 pub returns : goal.returns
 returns g c = kept_are_safe _

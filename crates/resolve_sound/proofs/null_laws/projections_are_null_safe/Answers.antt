@@ -1,5 +1,5 @@
 use Rattle.resolve_sound.proofs.NullRelations.{projections_are_safe}
-use Rattle.resolve_sound.proofs.null_laws.projections_tell_nulls.Goals as goal
+use Rattle.resolve_sound.proofs.null_laws.projections_are_null_safe.Goals as goal
 
 pub returns : goal.returns
 returns c = projections_are_safe

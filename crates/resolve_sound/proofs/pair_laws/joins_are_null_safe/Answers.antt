@@ -1,5 +1,5 @@
 use Rattle.resolve_sound.proofs.NullJoins.{joins_are_safe}
-use Rattle.resolve_sound.proofs.pair_laws.joins_tell_nulls.Goals as goal
+use Rattle.resolve_sound.proofs.pair_laws.joins_are_null_safe.Goals as goal
 
 pub returns : goal.returns
 returns c = joins_are_safe

@@ -1,5 +1,5 @@
 use Rattle.resolve_sound.proofs.NullRelations.{leaves_are_safe}
-use Rattle.resolve_sound.proofs.null_laws.leaves_tell_nulls.Goals as goal
+use Rattle.resolve_sound.proofs.null_laws.leaves_are_null_safe.Goals as goal
 
 pub returns : goal.returns
 returns g c = leaves_are_safe _
