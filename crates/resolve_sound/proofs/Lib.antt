@@ -14,6 +14,7 @@ pub mod NullJoins
 pub mod NullRelations
 pub mod NullSets
 pub mod Places
+pub mod NullableTables
 pub mod PlainItems
 pub mod PresentCasts
 pub mod SetRelations

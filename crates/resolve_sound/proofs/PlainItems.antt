@@ -9,12 +9,11 @@ use Rattle.expression_messages.specs.declared.expression.Expr.{Expr}
 use Rattle.resolve_names.specs.declared.scope.ColumnOf.{ColumnOf}
 use Rattle.resolve_names.specs.declared.scope.Tagged.{Tagged}
 use Rattle.resolve_names.specs.Checks.{Checked, ◌>>=◌, or_refused}
-use Rattle.resolve_names.specs.Scopes.{parts_of}
 use Rattle.resolve_functions.specs.Arguments.{untyped}
 use Rattle.resolve_expressions.specs.declared.item.Item.{Item}
 use Rattle.resolve_expressions.specs.Items.{Itemized, alias_of, attribute_title, item_by, item_of, one_name, typed_item}
 use Rattle.resolve_expressions.specs.Outputs.{added_item, added_items, key_items, plain_item, projected, projected_by, star_of, value_of}
-use Rattle.resolve_expressions.specs.Stars.{any_column, column_item, has_qualifier, items_where, some_items, star_items, target_name}
+use Rattle.resolve_expressions.specs.Stars.{any_column, column_item, has_qualifier, items_where, some_items, star_items}
 use Rattle.resolve_expressions.specs.Titles.{title}
 use Rattle.resolve_expressions.specs.Typings.{typed_over}
 use Rattle.resolve_expressions.proofs.TypedFacts.{values_are_well_formed}

@@ -2,3 +2,4 @@
 pub mod Laws
 pub mod PairLaws
 pub mod Sound
+pub mod TableLaws

@@ -4,6 +4,7 @@
 mod laws;
 mod null_laws;
 mod pair_laws;
+mod table_laws;
 
 pub use laws::{
     aggregates_are_sound, fewer_columns_are_sound, kept_relations_are_sound, leaves_are_sound,
@@ -17,3 +18,4 @@ pub use null_laws::{
 pub use pair_laws::{
     joins_are_null_safe, joins_are_sound, set_operations_are_null_safe, set_operations_are_sound,
 };
+pub use table_laws::{changes_keep_columns_nullable, nullable_tables_are_safe};
