@@ -114,12 +114,6 @@ is_there None = false
 abbrev pub clash : JoinKind → Bool → Bool → Bool
 clash kind conditioned keyed = (conditioned && keyed) || (is_cross kind && (conditioned || keyed))
 
--- by keys: rows match whose keys are equal; the keys come first, and then the other columns
-abbrev pub keyed : {I : Type 0} → (ℕ → I) → JoinKind → ℕ → FoundOf I → List KeyPair → Checked (FoundOf I)
-keyed fresh kind width pairs keys = do
-  counted ← column_limit (length (using_items kind width keys (items_where any_column 0 pairs.columns)))
-  Ok (projection fresh pairs (using_items kind width keys (items_where any_column 0 pairs.columns)))
-
 module _ {I : Type 0} (same : I → I → Bool) (exact : Bool) where
   -- with a condition over both relations' columns, or without one
   unfoldable pub on_rule : JoinKind → FoundOf I → FoundOf I → Option Expr → Checked (FoundOf I)
@@ -127,6 +121,12 @@ module _ {I : Type 0} (same : I → I → Bool) (exact : Bool) where
   on_rule kind left right (Some condition) =
       condition_of same exact (left.columns ++ right.columns) (left.relations ++ right.relations) (codes "join") condition
       >>= λ test. Ok (joined kind left right (Some test))
+
+  -- by keys: rows match whose keys are equal; the keys come first, and then the other columns
+  abbrev pub keyed : (ℕ → I) → JoinKind → ℕ → FoundOf I → List KeyPair → Checked (FoundOf I)
+  keyed fresh kind width pairs keys = do
+    counted ← column_limit (length (using_items kind width keys (items_where any_column 0 pairs.columns)))
+    Ok (projection fresh pairs (using_items kind width keys (items_where any_column 0 pairs.columns)))
 
   unfoldable pub using_rule : (ℕ → I) → JoinKind → FoundOf I → FoundOf I → List (List ℕ) → Checked (FoundOf I)
   using_rule fresh kind left right names = do

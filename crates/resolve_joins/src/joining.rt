@@ -1,5 +1,4 @@
-ghost use Rattle.std.specs.Prelude.{◌≡◌, ◌≢◌, ◌++◌, ◌==◌, not, if◌then◌else◌, pos, nat_eq, length, codes, Some, IfOk, IfErr, OnOk, Ok, Err};
-ghost use Rattle.std.specs.Option.{option_copied};
+ghost use Rattle.std.specs.Prelude.{◌≡◌, ◌≢◌, ◌++◌, ◌==◌, true, not, if◌then◌else◌, pos, nat_eq, length, codes, Some, IfOk, IfErr, OnOk, Ok, Err};
 ghost use Rattle.plan_model.specs.declared.node.Node.TheVariants as node;
 ghost use Rattle.resolve_names.specs.declared.error.ResolveStop.TheVariants.{OutOfMemory as no_memory};
 ghost use Rattle.resolve_names.specs.Checks.{or_refused};
@@ -35,11 +34,11 @@ pub fn join(
     left: Found,
     right: Found,
     join_type: i32,
-    condition: Option<&Expr>,
+    condition: &Option<Expr>,
     using_columns: &[Text],
 ) -> Result<Found, ResolveStop>
-    ensures ok { IfOk result (λ found. rules.join_rule nat_eq case_sensitive (columns_of.ids_from base) left right join_type (option_copied condition.entry) using_columns.now ≡ Ok found) }
-    ensures refused { IfErr result (λ e. e ≢ no_memory → rules.join_rule nat_eq case_sensitive (columns_of.ids_from base) left right join_type (option_copied condition.entry) using_columns.now ≡ Err e) }
+    ensures ok { IfOk result (λ found. rules.join_rule nat_eq case_sensitive (columns_of.ids_from base) left right join_type condition.now using_columns.now ≡ Ok found) }
+    ensures refused { IfErr result (λ e. e ≢ no_memory → rules.join_rule nat_eq case_sensitive (columns_of.ids_from base) left right join_type condition.now using_columns.now ≡ Err e) }
 {
     let kind = join_kind(alloc, join_type)?;
     no_clash(alloc, kind, is_there(condition), is_keyed(using_columns))?;
@@ -55,8 +54,8 @@ pub fn join(
     )
 }
 
-fn is_there(condition: Option<&Expr>) -> bool
-    ensures { result ≡ rules.is_there (option_copied condition.entry) }
+fn is_there(condition: &Option<Expr>) -> bool
+    ensures { result ≡ rules.is_there condition.now }
 {
     condition.is_some()
 }
@@ -74,11 +73,11 @@ fn matched(
     kind: JoinKind,
     left: Found,
     right: Found,
-    condition: Option<&Expr>,
+    condition: &Option<Expr>,
     names: &[Text],
 ) -> Result<Found, ResolveStop>
-    ensures ok { IfOk result (λ found. (if length names.now == 0 then rules.on_rule nat_eq case_sensitive kind left right (option_copied condition.entry) else rules.using_rule nat_eq case_sensitive (columns_of.ids_from base) kind left right names.now) ≡ Ok found) }
-    ensures refused { IfErr result (λ e. e ≢ no_memory → (if length names.now == 0 then rules.on_rule nat_eq case_sensitive kind left right (option_copied condition.entry) else rules.using_rule nat_eq case_sensitive (columns_of.ids_from base) kind left right names.now) ≡ Err e) }
+    ensures ok { IfOk result (λ found. (if length names.now == 0 then rules.on_rule nat_eq case_sensitive kind left right condition.now else rules.using_rule nat_eq case_sensitive (columns_of.ids_from base) kind left right names.now) ≡ Ok found) }
+    ensures refused { IfErr result (λ e. e ≢ no_memory → (if length names.now == 0 then rules.on_rule nat_eq case_sensitive kind left right condition.now else rules.using_rule nat_eq case_sensitive (columns_of.ids_from base) kind left right names.now) ≡ Err e) }
 {
     if names.is_empty() {
         on_condition(alloc, case_sensitive, kind, left, right, condition)
@@ -120,10 +119,10 @@ fn on_condition(
     kind: JoinKind,
     left: Found,
     right: Found,
-    condition: Option<&Expr>,
+    condition: &Option<Expr>,
 ) -> Result<Found, ResolveStop>
-    ensures ok { IfOk result (λ found. rules.on_rule nat_eq case_sensitive kind left right (option_copied condition.entry) ≡ Ok found) }
-    ensures refused { IfErr result (λ e. e ≢ no_memory → rules.on_rule nat_eq case_sensitive kind left right (option_copied condition.entry) ≡ Err e) }
+    ensures ok { IfOk result (λ found. rules.on_rule nat_eq case_sensitive kind left right condition.now ≡ Ok found) }
+    ensures refused { IfErr result (λ e. e ≢ no_memory → rules.on_rule nat_eq case_sensitive kind left right condition.now ≡ Err e) }
 {
     match condition {
         Some(condition) => conditioned(alloc, case_sensitive, kind, left, right, condition),
@@ -192,6 +191,7 @@ fn on_keys(
     keyed(alloc, base, kind, left, right, keys.as_slice())
 }
 
+/// A join by these keys, in which the case of names is no matter any more.
 fn keyed(
     alloc: Global,
     base: u64,
@@ -200,8 +200,8 @@ fn keyed(
     right: Found,
     keys: &[KeyPair],
 ) -> Result<Found, ResolveStop>
-    ensures ok { IfOk result (λ found. rules.keyed (columns_of.ids_from base) kind (length left.columns) (rules.joined kind left right (keys_of.all_equal (length left.columns) keys.now)) keys.now ≡ Ok found) }
-    ensures refused { IfErr result (λ e. e ≢ no_memory → rules.keyed (columns_of.ids_from base) kind (length left.columns) (rules.joined kind left right (keys_of.all_equal (length left.columns) keys.now)) keys.now ≡ Err e) }
+    ensures ok { IfOk result (λ found. rules.keyed nat_eq true (columns_of.ids_from base) kind (length left.columns) (rules.joined kind left right (keys_of.all_equal (length left.columns) keys.now)) keys.now ≡ Ok found) }
+    ensures refused { IfErr result (λ e. e ≢ no_memory → rules.keyed nat_eq true (columns_of.ids_from base) kind (length left.columns) (rules.joined kind left right (keys_of.all_equal (length left.columns) keys.now)) keys.now ≡ Err e) }
 {
     let parts = keyed_parts(
         alloc,

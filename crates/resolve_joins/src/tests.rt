@@ -9,7 +9,7 @@ use std::test::Fail;
 fn joined(alloc: Global, join_type: i32, names: &[Text]) -> Result<Found, ResolveStop> {
     let left = range(alloc, 1, 0, 3, 1)?;
     let right = range(alloc, 2, 0, 3, 1)?;
-    join(alloc, false, 3, left, right, join_type, None, names)
+    join(alloc, false, 3, left, right, join_type, &None, names)
 }
 
 /// The ids of the columns, each with a `?` where it may be null.
