@@ -243,7 +243,7 @@ fn joined(
         left,
         right,
         it.join_type,
-        it.join_condition.as_ref(),
+        &it.join_condition,
         it.using_columns.as_slice(),
     )
 }

@@ -98,11 +98,16 @@ combined fresh left right kind all columns = record {
 abbrev pub places_of : {I : Type 0} → Bool → Bool → Bool → List (ColumnOf I) → List (ColumnOf I) → Checked (List Places)
 places_of exact named missing left right = if named then by_name exact missing left right else by_place left right
 
--- `set_op`: its options, then which columns become one, and then their types
+-- a set operation of a kind: which columns become one, and then their types
+abbrev pub of_kind : {I : Type 0} → Bool → (ℕ → I) → SetKind → FoundOf I → FoundOf I → Bool → Bool → Bool → Checked (FoundOf I)
+of_kind exact fresh kind left right all named missing = do
+  places ← places_of exact named missing left.columns right.columns
+  columns ← aligned left.columns right.columns places
+  Ok (combined fresh left right kind all columns)
+
+-- `set_op`: its options come first
 unfoldable pub set_rule : {I : Type 0} → Bool → (ℕ → I) → FoundOf I → FoundOf I → ℤ → Bool → Bool → Bool → Checked (FoundOf I)
 set_rule exact fresh left right number all named missing = do
   kind ← or_refused (bad_option number) (kind_numbered number)
   options ← unless (named && not (is_union kind)) (bad_option (pos 0))
-  places ← places_of exact named missing left.columns right.columns
-  columns ← aligned left.columns right.columns places
-  Ok (combined fresh left right kind all columns)
+  of_kind exact fresh kind left right all named missing

@@ -56,7 +56,12 @@ fn set_column(
     ensures { IfOk result (λ c. c ≡ sets.set_column id kind (option_copied left.entry) (option_copied right.entry)) }
 {
     match (left, right) {
-        (Some(left), Some(right)) => left_column(alloc, kind, left.nullable || right.nullable, left),
+        (Some(left), Some(right)) => left_column(
+            alloc,
+            kind,
+            left.nullable || right.nullable,
+            left,
+        ),
         (Some(left), None) => left_column(alloc, kind, true, left),
         (None, Some(right)) => right_column(alloc, id, kind, right),
         (None, None) => Ok(fresh_column(alloc, id, Text::new(alloc), kind, true)),

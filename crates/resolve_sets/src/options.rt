@@ -47,7 +47,11 @@ fn kind_numbered(number: i32) -> Option<SetKind>
 }
 
 /// That names decide of a union alone; Unsupported tells it of another kind.
-pub(crate) fn names_may_decide(alloc: Global, by_name: bool, kind: SetKind) -> Result<(), ResolveStop>
+pub(crate) fn names_may_decide(
+    alloc: Global,
+    by_name: bool,
+    kind: SetKind,
+) -> Result<(), ResolveStop>
     ensures ok { OnOk result (unless (by_name && not (sets.is_union kind)) (making.bad_option (pos 0)) ≡ Ok tt) }
     ensures refused { IfErr result (λ e. e ≢ no_memory → unless (by_name && not (sets.is_union kind)) (making.bad_option (pos 0)) ≡ Err e) }
 {

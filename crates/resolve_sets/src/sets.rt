@@ -34,6 +34,22 @@ pub fn set_operation(
 {
     let kind = set_kind(alloc, options.set_op_type)?;
     names_may_decide(alloc, options.by_name, kind)?;
+    of_kind(alloc, case_sensitive, base, kind, left, right, options)
+}
+
+/// The set operation of a kind: which columns become one, then their types, and then the rows.
+fn of_kind(
+    alloc: Global,
+    case_sensitive: bool,
+    base: u64,
+    kind: SetKind,
+    left: Found,
+    right: Found,
+    options: SetOptions,
+) -> Result<Found, ResolveStop>
+    ensures ok { IfOk result (λ found. sets.of_kind case_sensitive (columns_of.ids_from base) kind left right options.all options.by_name options.allow_missing ≡ Ok found) }
+    ensures refused { IfErr result (λ e. e ≢ no_memory → sets.of_kind case_sensitive (columns_of.ids_from base) kind left right options.all options.by_name options.allow_missing ≡ Err e) }
+{
     let places = places_of(
         alloc,
         case_sensitive,
@@ -47,7 +63,15 @@ pub fn set_operation(
         right.columns.as_slice(),
         places.as_slice(),
     )?;
-    combined(alloc, base, left, right, kind, options.all, columns.as_slice())
+    combined(
+        alloc,
+        base,
+        left,
+        right,
+        kind,
+        options.all,
+        columns.as_slice(),
+    )
 }
 
 /// Which columns become one.
