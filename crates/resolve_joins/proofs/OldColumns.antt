@@ -1,5 +1,5 @@
 -- The columns of a join have the ids of the left's columns, or of the right's.
-use Rattle.std.proofs.Common.{◌≡◌, ℕ, zero, suc, ◌+◌, ◌<◌, ◌≤◌, Bool, true, false, List, [], ◌∷◌, ◌++◌, map, length, drop, refl, sym, ap, ◌∙◌, subst, arith, Option, Some, None}
+use Rattle.std.proofs.Common.{◌≡◌, ℕ, zero, suc, ◌+◌, ◌<◌, ◌≤◌, Bool, true, false, List, [], ◌∷◌, ◌++◌, map, length, drop, refl, inl, inr, sym, ap, ◌∙◌, subst, arith, Option, Some, None}
 use Rattle.std.specs.Prelude.{ℤ, Ok, nat_eq, ◌==◌, ◌||◌, not, if◌then◌else◌, All, Contains, slice_get, option_and_then, filter, filter_map, codes, pos}
 use Rattle.std.specs.List.{cons_option}
 use Rattle.std.proofs.lemmas.List.{append-nil, get_or-map, length-map}
@@ -22,7 +22,7 @@ use Rattle.resolve_relations.specs.Making.{bad_option}
 use Rattle.resolve_joins.specs.declared.keys.KeyPair.{KeyPair}
 use Rattle.resolve_joins.specs.Joins.{clash, is_there, join_rule, joined_columns, kind_numbered, kind_without, on_rule, perhaps_null, side_columns, using_rule}
 use Rattle.resolve_joins.specs.Keys.{is_rest, key_item, key_pair, using_items}
-use Rattle.resolve_joins.specs.Laws.{OtherColumnsAreOld, SemiJoinsHaveTheLeft, ids, ids_of, new_columns}
+use Rattle.resolve_joins.specs.Laws.{OtherColumnsAreOld, SemiJoinsHaveTheLeftAlone, ids, ids_of, new_columns}
 
 there : {A : Type 0} (why : Refusal) (o : Option A) (x : A) → or_refused why o ≡ Ok x → o ≡ Some x
 there why (Some y) x e = ap Some (same_ok y x e)
@@ -251,7 +251,7 @@ pub other_columns_are_old : OtherColumnsAreOld
 other_columns_are_old exact fresh left right number condition names kind found is e =
     rule_old exact fresh left right found number condition names kind is e
 
--- ---- semi joins without keys
+-- ---- semi joins and anti joins without keys
 
 as_it_is : (column : ColumnOf ℕ) → perhaps_null false column ≡ column
 as_it_is column =
@@ -271,26 +271,37 @@ semi_columns : (left right : Columns) → joined_columns kind.Semi left right �
 unfolding joined_columns
 semi_columns left right = append-nil (side_columns false left) ∙ all_as_they_are left
 
-module _ (exact : Bool) (fresh : ℕ → ℕ) (left right found : FoundOf ℕ) where
-  semi_on : (condition : Option Expr) → on_rule nat_eq exact kind.Semi left right condition ≡ Ok found → found.columns ≡ left.columns
+anti_columns : (left right : Columns) → joined_columns kind.Anti left right ≡ left
+unfolding joined_columns
+anti_columns left right = append-nil (side_columns false left) ∙ all_as_they_are left
+
+module _ (exact : Bool) (fresh : ℕ → ℕ) (left right found : FoundOf ℕ) (kind : JoinKind)
+    (alone : joined_columns kind left.columns right.columns ≡ left.columns)
+    (without : joined_columns (kind_without kind) left.columns right.columns ≡ left.columns) where
+  alone_on : (condition : Option Expr) → on_rule nat_eq exact kind left right condition ≡ Ok found → found.columns ≡ left.columns
   unfolding on_rule
-  semi_on None e = ap (λ (f : FoundOf ℕ). f.columns) (sym (same_ok _ found e)) ∙ semi_columns left.columns right.columns
-  semi_on (Some condition) e =
+  alone_on None e = ap (λ (f : FoundOf ℕ). f.columns) (sym (same_ok _ found e)) ∙ without
+  alone_on (Some condition) e =
       let columns = left.columns ++ right.columns in
       let made = bind_ok (condition_of nat_eq exact columns (left.relations ++ right.relations) (codes "join") condition) _ found e in
-      ap (λ (f : FoundOf ℕ). f.columns) (sym (same_ok _ found made.2)) ∙ semi_columns left.columns right.columns
+      ap (λ (f : FoundOf ℕ). f.columns) (sym (same_ok _ found made.2)) ∙ alone
 
-  semi_rule : (number : ℤ) (condition : Option Expr) → kind_numbered number ≡ Some kind.Semi →
+  alone_rule : (number : ℤ) (condition : Option Expr) → kind_numbered number ≡ Some kind →
       join_rule nat_eq exact fresh left right number condition [] ≡ Ok found → found.columns ≡ left.columns
   unfolding join_rule
-  semi_rule number condition is e =
+  alone_rule number condition is e =
       let its = bind_ok (or_refused (bad_option number) (kind_numbered number)) _ found e in
-      let same : its.0 ≡ kind.Semi = same_some its.0 kind.Semi (sym (there (bad_option number) (kind_numbered number) its.0 its.1) ∙ is) in
+      let same : its.0 ≡ kind = same_some its.0 kind (sym (there (bad_option number) (kind_numbered number) its.0 its.1) ∙ is) in
       let fits = bind_ok (unless (clash its.0 (is_there condition) false) (bad_option (pos 0))) _ found its.2 in
-      semi_on condition (subst (λ (k : JoinKind). on_rule nat_eq exact k left right condition ≡ Ok found) same fits.2)
+      alone_on condition (subst (λ (k : JoinKind). on_rule nat_eq exact k left right condition ≡ Ok found) same fits.2)
     where
       same_some : (a b : JoinKind) → ◌≡◌ {A = Option JoinKind} (Some a) (Some b) → a ≡ b
       same_some a b h = cc
 
-pub semi_joins_have_the_left : SemiJoinsHaveTheLeft
-semi_joins_have_the_left exact fresh left right number condition found is e = semi_rule exact fresh left right found number condition is e
+pub semi_joins_have_the_left_alone : SemiJoinsHaveTheLeftAlone
+semi_joins_have_the_left_alone exact fresh left right number condition found (inl is) e =
+    let alone = semi_columns left.columns right.columns in
+    alone_rule exact fresh left right found kind.Semi alone alone number condition is e
+semi_joins_have_the_left_alone exact fresh left right number condition found (inr is) e =
+    let alone = anti_columns left.columns right.columns in
+    alone_rule exact fresh left right found kind.Anti alone alone number condition is e

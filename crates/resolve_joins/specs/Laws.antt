@@ -1,5 +1,5 @@
 -- What follows from the rule of joins.
-use Rattle.std.specs.Prelude.{◌≡◌, ℕ, ℤ, nat_eq, Bool, List, [], ◌++◌, map, drop, length, All, Contains, Option, Some, Ok}
+use Rattle.std.specs.Prelude.{◌≡◌, ◌⊎◌, ℕ, ℤ, nat_eq, Bool, List, [], ◌++◌, map, drop, length, All, Contains, Option, Some, Ok}
 use Rattle.expression_messages.specs.declared.expression.Expr.{Expr}
 use Rattle.plan_model.specs.declared.node.JoinKind.{JoinKind}
 use Rattle.plan_model.specs.declared.node.JoinKind.TheVariants as kind
@@ -37,9 +37,9 @@ OtherColumnsAreOld =
     (found : FoundOf ℕ) → kind_numbered number ≡ Some kind → join_rule nat_eq exact fresh left right number condition names ≡ Ok found →
     All (λ column. Contains (ids_of kind (ids left.columns) (ids right.columns)) column.id) (drop (new_columns kind names) found.columns)
 
--- a semi join without keys has the left's columns as they are
-abbrev pub SemiJoinsHaveTheLeft : Type 0
-SemiJoinsHaveTheLeft =
+-- a semi join and an anti join without keys have the left's columns as they are
+abbrev pub SemiJoinsHaveTheLeftAlone : Type 0
+SemiJoinsHaveTheLeftAlone =
     (exact : Bool) (fresh : ℕ → ℕ) (left right : FoundOf ℕ) (number : ℤ) (condition : Option Expr) (found : FoundOf ℕ) →
-    kind_numbered number ≡ Some kind.Semi → join_rule nat_eq exact fresh left right number condition [] ≡ Ok found →
-    found.columns ≡ left.columns
+    (kind_numbered number ≡ Some kind.Semi) ⊎ (kind_numbered number ≡ Some kind.Anti) →
+    join_rule nat_eq exact fresh left right number condition [] ≡ Ok found → found.columns ≡ left.columns

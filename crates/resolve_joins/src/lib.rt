@@ -14,4 +14,4 @@ mod tests;
 
 pub use joining::join;
 pub use keys::KeyPair;
-pub use laws::{other_columns_are_old, semi_joins_have_the_left};
+pub use laws::{other_columns_are_old, semi_joins_have_the_left_alone};

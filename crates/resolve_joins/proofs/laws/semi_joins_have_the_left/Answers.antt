@@ -1,5 +1,0 @@
-use Rattle.resolve_joins.proofs.OldColumns.{semi_joins_have_the_left}
-use Rattle.resolve_joins.proofs.laws.semi_joins_have_the_left.Goals as goal
-
-pub returns : goal.returns
-returns c = semi_joins_have_the_left
