@@ -43,7 +43,7 @@ use Rattle.plan_grammar.specs.declared.symbol.Deed.TheVariants as deed
 use Rattle.plan_text.specs.declared.draft.Draft.{Draft}
 use Rattle.plan_text.specs.declared.draft.Write.{Write}
 use Rattle.plan_text.specs.Piles.{top, rest}
-use Rattle.plan_text.specs.Drafts.{no_draft, star, call, attribute, alias, type_of, binary_name, unary_name, relation, no_relation, with_plan_id, top_relation, top_name, unit_done, part_done, step_done, done, taken, built, all_built, planned, plan_of_draft, plan_of_deeds}
+use Rattle.plan_text.specs.Drafts.{no_draft, star, call, alias, type_of, binary_name, unary_name, relation, no_relation, with_plan_id, top_relation, top_name, unit_done, part_done, step_done, done, taken, built, all_built, planned, plan_of_deeds}
 
 -- ---- lists
 

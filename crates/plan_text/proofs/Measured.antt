@@ -1,6 +1,6 @@
 -- What a draft measures goes on as the draft does, so that a plan's depth is known before it is built.
-use Rattle.std.proofs.Common.{◌≡◌, ℕ, ◌+◌, ◌-◌, ◌^◌, ◌≤◌, max, Bool, true, false, List, [], ◌∷◌, ◌++◌, map, refl, sym, ap, ◌∙◌, cond, arith}
-use Rattle.std.specs.Prelude.{Option, Some, None, ℤ, min, reverse, is_some}
+use Rattle.std.proofs.Common.{◌≡◌, ℕ, ◌+◌, ◌≤◌, max, Bool, true, false, List, [], ◌∷◌, ◌++◌, map, refl, sym, ap, ◌∙◌, cond, arith}
+use Rattle.std.specs.Prelude.{Option, Some, None, ℤ, reverse, is_some}
 use Rattle.std.proofs.lemmas.List.{map-append, reverse-append}
 use Rattle.std.specs.Ordering.{nat_cmp, is_lt, is_eq}
 use Rattle.std.specs.Cmp.Lexicographic.{slice_cmp}
@@ -10,10 +10,8 @@ use Rattle.expression_messages.specs.declared.literal.Literal.{Literal}
 use Rattle.expression_messages.specs.declared.literal.Literal.TheVariants as literal
 use Rattle.expression_messages.specs.declared.expression.Expr.{Expr}
 use Rattle.expression_messages.specs.declared.expression.Expr.TheVariants as expr
-use Rattle.expression_messages.specs.declared.expression.Alias.{Alias}
-use Rattle.expression_messages.specs.declared.expression.SortOrder.{SortOrder}
 use Rattle.expression_messages.specs.declared.expression.CastTarget.TheVariants as target
-use Rattle.expression_messages.specs.Depths.{largest, told, type_depth, literal_depth, target_depth, expr_depth, alias_depth, sort_order_depth}
+use Rattle.expression_messages.specs.Depths.{largest, told, type_depth, literal_depth, expr_depth, alias_depth, sort_order_depth}
 use Rattle.expression_messages.proofs.TypeCases.{type_depth-Boolean, type_depth-Integer, type_depth-Long, type_depth-String, type_depth-Date}
 use Rattle.expression_messages.proofs.ExprCases.{expr_depth-Literal, expr_depth-UnresolvedAttribute, expr_depth-UnresolvedFunction, expr_depth-UnresolvedStar, expr_depth-Alias, expr_depth-Cast}
 use Rattle.plain_relations.specs.declared.rename_entry.RenameEntry.{RenameEntry}
@@ -44,11 +42,9 @@ use Rattle.plan_grammar.specs.declared.symbol.Deed.{Deed}
 use Rattle.plan_grammar.specs.declared.symbol.Deed.TheVariants as deed
 use Rattle.plan_text.specs.declared.draft.Draft.{Draft}
 use Rattle.plan_text.specs.declared.draft.Write.{Write}
-use Rattle.plan_text.specs.declared.heights.Heights.{Heights}
 use Rattle.plan_text.specs.Piles.{top, rest}
-use Rattle.plan_text.specs.Names.{part_of}
 use Rattle.plan_text.specs.Drafts.{no_draft, star, call, attribute, alias, type_of, binary_name, unary_name, relation, no_relation, with_plan_id, top_relation, top_name, unit_done, part_done, step_done, done, taken, built, all_built, planned, plan_of_draft, plan_of_deeds}
-use Rattle.plan_text.specs.Heights.{expr_height, relation_height, heights_of, no_heights, above, largest_height, unit_height, part_height, step_height, action_height, taken_height, deed_height, all_heights, plan_height}
+use Rattle.plan_text.specs.Heights.{expr_height, relation_height, heights_of, no_heights, above, unit_height, part_height, step_height, action_height, taken_height, deed_height, all_heights, plan_height}
 
 -- ---- piles
 

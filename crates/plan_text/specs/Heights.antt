@@ -1,12 +1,11 @@
 -- How deep messages are nested in what is built: a line an action. A height is a number of 32 bits; the last one stands for those above it.
-use Rattle.std.specs.Prelude.{ℕ, ◌+◌, max, Bool, true, false, if◌then◌else◌, List, [], ◌∷◌, map, reverse, is_some}
+use Rattle.std.specs.Prelude.{ℕ, ◌+◌, max, true, false, if◌then◌else◌, List, [], ◌∷◌, map, reverse, is_some}
 use Rattle.expression_messages.specs.declared.expression.Expr.{Expr}
 use Rattle.expression_messages.specs.Depths.{largest, told, expr_depth, alias_depth, sort_order_depth}
 use Rattle.plain_relations.specs.RenameMaps.{rename_map_of}
 use Rattle.plain_relations.specs.Depths.{entries_depth}
 use Rattle.relation_messages.specs.declared.relation.Relation.{Relation}
 use Rattle.relation_messages.specs.Depths.{relation_depth}
-use Rattle.plan_tokens.specs.declared.token.Token.{Token}
 use Rattle.plan_grammar.specs.declared.symbol.Action.{Action}
 use Rattle.plan_grammar.specs.declared.symbol.Action.TheVariants as action
 use Rattle.plan_grammar.specs.declared.symbol.UnitAction.{UnitAction}

@@ -3,3 +3,4 @@ pub mod Heights
 pub mod Names
 pub mod Piles
 pub mod Pipelines
+pub mod Writable

@@ -6,6 +6,7 @@ ghost use Rattle.plan_messages.specs.Known.{IsKnownPlan};
 ghost use Rattle.plan_messages.specs.Spelled.{plan_fields};
 ghost use Rattle.plan_text.specs.Drafts as drafts;
 ghost use Rattle.plan_text.specs.Pipelines.{ATextIsOnePlan, IsPlanOf, IsTooDeep, IsTooLong};
+ghost use Rattle.plan_text.specs.Writable.{CanDoAll};
 
 use crate::draft::Draft;
 use crate::heights::plan_height;
@@ -54,6 +55,7 @@ impl From<OutOfMemory> for TextFault {
 
 /// What is built of deeds.
 fn draft_of(alloc: Global, deeds: &[Deed]) -> Result<Draft, OutOfMemory>
+    requires { CanDoAll deeds.now drafts.no_draft }
     ensures { IfOk result (λ draft. draft ≡ drafts.all_built deeds.now drafts.no_draft) }
 {
     let mut draft = Draft::new(alloc);
@@ -104,6 +106,7 @@ fn allowed(alloc: Global, plan: Plan) -> Result<Plan, TextFault>
 /// The plan of a text's deeds.
 #[tactic(auto, using(crate::proofs::KnownDrafts::known_by_deeds))]
 fn plan_of_deeds(alloc: Global, deeds: &[Deed], length: u64) -> Result<Plan, TextFault>
+    requires { CanDoAll deeds.now drafts.no_draft }
     ensures built { IfOk result (λ plan. plan ≡ drafts.plan_of_deeds deeds.now) }
     ensures depth { IfOk result (λ plan. plan_depth plan ≤ 199) }
     ensures known { IfOk result IsKnownPlan }
@@ -124,6 +127,7 @@ fn plan_of_deeds(alloc: Global, deeds: &[Deed], length: u64) -> Result<Plan, Tex
 /// `TooLong` says that the text has more than 1,048,576 bytes, or, after all other refusals, that the plan's spelling has more than
 /// 67,000,000. `Unexpected` tells the first token at which no continuation is in the grammar. `TooDeep` says that the text is a pipeline
 /// whose plan is nested deeper than 199 messages. A plan that is read is nested at most so deep, and has a spelling.
+#[tactic(auto, using(crate::proofs::ValuesPhases::deeds_can_be_done))]
 pub fn parse_pipeline(alloc: Global, text: &str) -> Result<Plan, TextFault>
     ensures planned { IfOk result (IsPlanOf text.now) }
     ensures short { IfOk result (λ plan. length text.now ≤ 1048576) }

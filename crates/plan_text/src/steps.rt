@@ -1,5 +1,6 @@
 ghost use Rattle.std.specs.Prelude.{◌≡◌, IfOk, OnOk};
 ghost use Rattle.plan_text.specs.Drafts as drafts;
+ghost use Rattle.plan_text.specs.Writable.{CanStep};
 
 use crate::draft::{Draft, Write};
 use crate::makers::{as_integer, no_relation, relation, star};
@@ -250,6 +251,7 @@ impl Draft {
 
     /// Does what makes relations and writes.
     pub fn do_step(&mut self, alloc: Global, step: StepAction) -> Result<(), OutOfMemory>
+        requires { CanStep step self.old }
         ensures { OnOk result (self.new ≡ drafts.step_done step self.old) }
     {
         match step {

@@ -1,5 +1,6 @@
 ghost use Rattle.std.specs.Prelude.{◌≡◌, IfOk, OnOk};
 ghost use Rattle.plan_text.specs.Drafts as drafts;
+ghost use Rattle.plan_text.specs.Writable.{CanAct, CanDo};
 
 use crate::draft::Draft;
 use crate::makers::{as_integer, long_of, negative_long_of};
@@ -146,6 +147,7 @@ impl Draft {
     }
 
     fn do_action(&mut self, alloc: Global, action: Action) -> Result<(), OutOfMemory>
+        requires { CanAct action self.old }
         ensures { OnOk result (self.new ≡ drafts.done action self.old) }
     {
         match action {
@@ -165,6 +167,7 @@ impl Draft {
 
     /// Does a deed of a text.
     pub fn build(&mut self, alloc: Global, deed: &Deed) -> Result<(), OutOfMemory>
+        requires { CanDo deed.now self.old }
         ensures { OnOk result (self.new ≡ drafts.built deed.now self.old) }
     {
         match deed {

@@ -1,11 +1,12 @@
 ghost use Rattle.std.specs.Prelude.{◌≡◌, ◌++◌, IfOk, OnOk};
 ghost use Rattle.std.specs.String.{string_bytes};
 ghost use Rattle.plan_text.specs.Drafts as drafts;
+ghost use Rattle.plan_text.specs.Writable.{HasValues};
 
 use crate::draft::Draft;
 use crate::makers::relation;
 use crate::names::push_json;
-use arrow_ipc::{can_be_written, write_stream};
+use arrow_ipc::write_stream;
 use cn_base::{List, OutOfMemory, Text};
 use cn_types::{DataType, Field, Schema};
 use plan_messages::{LocalRelation, RelationMember};
@@ -61,14 +62,11 @@ fn schema_json(alloc: Global, fields: &[Field]) -> Result<Text, OutOfMemory>
 impl Draft {
     /// Makes a relation of the columns and rows that were read.
     pub fn values(&mut self, alloc: Global) -> Result<(), OutOfMemory>
+        requires { HasValues self.old }
         ensures { OnOk result (self.new ≡ drafts.values_done self.old) }
     {
         let schema = Schema(mem::replace(&mut self.columns, List::new(alloc)));
         let rows = mem::replace(&mut self.rows, List::new(alloc));
-        // A text of 1 MiB holds far fewer columns and bytes than a stream may have, and the grammar lets cells of their columns' types in.
-        if !can_be_written(&schema, rows.as_slice()) {
-            return Err(OutOfMemory);
-        }
         let payload = write_stream(alloc, &schema, rows.as_slice())?;
         let text = schema_json(alloc, schema.0.as_slice())?;
         self.relations.put(relation(RelationMember::LocalRelation(LocalRelation {
