@@ -12,6 +12,8 @@ mod stack;
 mod step_rules;
 mod symbol;
 mod symbols;
+#[cfg(test)]
+mod tests;
 mod tests_of_tokens;
 mod unit_rules;
 mod values_rules;

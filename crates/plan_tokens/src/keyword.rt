@@ -1,4 +1,4 @@
-ghost use Rattle.std.specs.Prelude.{◌≡◌, ◌≢◌, IfSome, IsNone};
+ghost use Rattle.std.specs.Prelude.{◌≡◌, ◌≢◌, length, IfSome, IsNone};
 ghost use Rattle.plan_tokens.specs.Words.{spelled_word, keyword_of};
 ghost use Rattle.plan_tokens.specs.declared.keyword.Keyword.{Keyword as AnyKeyword};
 
@@ -77,68 +77,165 @@ impl Keyword {
     }
 }
 
+/// The word that is spelled so. Words are compared with those of their length alone.
+#[tactic(auto, using(crate::proofs::WordFacts::of_length, crate::proofs::WordFacts::of_no_length))]
 fn spelled(word: &str) -> Option<Keyword>
     ensures found { IfSome result (λ keyword. spelled_word keyword ≡ word.now) }
     ensures none { IsNone result → (keyword : AnyKeyword) → spelled_word keyword ≢ word.now }
 {
+    let size = word.len();
+    if size == 2 {
+        return of_two(word);
+    }
+    if size == 3 {
+        return of_three(word);
+    }
+    if size == 4 {
+        return of_four(word);
+    }
+    if size == 5 {
+        return of_five(word);
+    }
+    if size == 6 {
+        return of_six(word);
+    }
+    if size == 7 {
+        return of_seven(word);
+    }
+    if size == 8 {
+        return of_eight(word);
+    }
+    if size == 9 {
+        return of_nine(word);
+    }
+    None
+}
+
+fn of_two(word: &str) -> Option<Keyword>
+    ensures found { IfSome result (λ keyword. spelled_word keyword ≡ word.now) }
+    ensures none { IsNone result → (keyword : AnyKeyword) → length (spelled_word keyword) ≡ 2 → spelled_word keyword ≢ word.now }
+{
+    match word {
+        "as" => Some(Keyword::As),
+        "on" => Some(Keyword::On),
+        "id" => Some(Keyword::Id),
+        "or" => Some(Keyword::Or),
+        "is" => Some(Keyword::Is),
+        _ => None,
+    }
+}
+
+fn of_three(word: &str) -> Option<Keyword>
+    ensures found { IfSome result (λ keyword. spelled_word keyword ≡ word.now) }
+    ensures none { IsNone result → (keyword : AnyKeyword) → length (spelled_word keyword) ≡ 3 → spelled_word keyword ≢ word.now }
+{
+    match word {
+        "agg" => Some(Keyword::Agg),
+        "all" => Some(Keyword::All),
+        "asc" => Some(Keyword::Asc),
+        "and" => Some(Keyword::And),
+        "not" => Some(Keyword::Not),
+        "div" => Some(Keyword::Div),
+        _ => None,
+    }
+}
+
+fn of_four(word: &str) -> Option<Keyword>
+    ensures found { IfSome result (λ keyword. spelled_word keyword ≡ word.now) }
+    ensures none { IsNone result → (keyword : AnyKeyword) → length (spelled_word keyword) ≡ 4 → spelled_word keyword ≢ word.now }
+{
+    match word {
+        "with" => Some(Keyword::With),
+        "drop" => Some(Keyword::Drop),
+        "sort" => Some(Keyword::Sort),
+        "join" => Some(Keyword::Join),
+        "full" => Some(Keyword::Full),
+        "left" => Some(Keyword::Left),
+        "anti" => Some(Keyword::Anti),
+        "semi" => Some(Keyword::Semi),
+        "desc" => Some(Keyword::Desc),
+        "last" => Some(Keyword::Last),
+        "null" => Some(Keyword::Null),
+        "true" => Some(Keyword::True),
+        "date" => Some(Keyword::Date),
+        "cast" => Some(Keyword::Cast),
+        "long" => Some(Keyword::Long),
+        _ => None,
+    }
+}
+
+fn of_five(word: &str) -> Option<Keyword>
+    ensures found { IfSome result (λ keyword. spelled_word keyword ≡ word.now) }
+    ensures none { IsNone result → (keyword : AnyKeyword) → length (spelled_word keyword) ≡ 5 → spelled_word keyword ≢ word.now }
+{
     match word {
         "range" => Some(Keyword::Range),
         "table" => Some(Keyword::Table),
-        "values" => Some(Keyword::Values),
         "where" => Some(Keyword::Where),
-        "select" => Some(Keyword::Select),
-        "with" => Some(Keyword::With),
-        "drop" => Some(Keyword::Drop),
-        "rename" => Some(Keyword::Rename),
-        "as" => Some(Keyword::As),
         "names" => Some(Keyword::Names),
         "alias" => Some(Keyword::Alias),
-        "sort" => Some(Keyword::Sort),
         "limit" => Some(Keyword::Limit),
-        "offset" => Some(Keyword::Offset),
-        "distinct" => Some(Keyword::Distinct),
-        "on" => Some(Keyword::On),
         "group" => Some(Keyword::Group),
-        "agg" => Some(Keyword::Agg),
-        "join" => Some(Keyword::Join),
         "using" => Some(Keyword::Using),
         "union" => Some(Keyword::Union),
-        "intersect" => Some(Keyword::Intersect),
-        "except" => Some(Keyword::Except),
-        "all" => Some(Keyword::All),
-        "id" => Some(Keyword::Id),
         "write" => Some(Keyword::Write),
-        "insert" => Some(Keyword::Insert),
-        "append" => Some(Keyword::Append),
-        "overwrite" => Some(Keyword::Overwrite),
         "error" => Some(Keyword::Error),
-        "ignore" => Some(Keyword::Ignore),
         "inner" => Some(Keyword::Inner),
-        "full" => Some(Keyword::Full),
-        "left" => Some(Keyword::Left),
         "right" => Some(Keyword::Right),
-        "anti" => Some(Keyword::Anti),
-        "semi" => Some(Keyword::Semi),
         "cross" => Some(Keyword::Cross),
-        "asc" => Some(Keyword::Asc),
-        "desc" => Some(Keyword::Desc),
         "nulls" => Some(Keyword::Nulls),
         "first" => Some(Keyword::First),
-        "last" => Some(Keyword::Last),
-        "or" => Some(Keyword::Or),
-        "and" => Some(Keyword::And),
-        "not" => Some(Keyword::Not),
-        "is" => Some(Keyword::Is),
-        "null" => Some(Keyword::Null),
-        "true" => Some(Keyword::True),
         "false" => Some(Keyword::False),
-        "date" => Some(Keyword::Date),
-        "cast" => Some(Keyword::Cast),
-        "div" => Some(Keyword::Div),
-        "integer" => Some(Keyword::Integer),
-        "long" => Some(Keyword::Long),
+        _ => None,
+    }
+}
+
+fn of_six(word: &str) -> Option<Keyword>
+    ensures found { IfSome result (λ keyword. spelled_word keyword ≡ word.now) }
+    ensures none { IsNone result → (keyword : AnyKeyword) → length (spelled_word keyword) ≡ 6 → spelled_word keyword ≢ word.now }
+{
+    match word {
+        "values" => Some(Keyword::Values),
+        "select" => Some(Keyword::Select),
+        "rename" => Some(Keyword::Rename),
+        "offset" => Some(Keyword::Offset),
+        "except" => Some(Keyword::Except),
+        "insert" => Some(Keyword::Insert),
+        "append" => Some(Keyword::Append),
+        "ignore" => Some(Keyword::Ignore),
         "string" => Some(Keyword::String),
+        _ => None,
+    }
+}
+
+fn of_seven(word: &str) -> Option<Keyword>
+    ensures found { IfSome result (λ keyword. spelled_word keyword ≡ word.now) }
+    ensures none { IsNone result → (keyword : AnyKeyword) → length (spelled_word keyword) ≡ 7 → spelled_word keyword ≢ word.now }
+{
+    match word {
+        "integer" => Some(Keyword::Integer),
         "boolean" => Some(Keyword::Boolean),
+        _ => None,
+    }
+}
+
+fn of_eight(word: &str) -> Option<Keyword>
+    ensures found { IfSome result (λ keyword. spelled_word keyword ≡ word.now) }
+    ensures none { IsNone result → (keyword : AnyKeyword) → length (spelled_word keyword) ≡ 8 → spelled_word keyword ≢ word.now }
+{
+    match word {
+        "distinct" => Some(Keyword::Distinct),
+        _ => None,
+    }
+}
+
+fn of_nine(word: &str) -> Option<Keyword>
+    ensures found { IfSome result (λ keyword. spelled_word keyword ≡ word.now) }
+    ensures none { IsNone result → (keyword : AnyKeyword) → length (spelled_word keyword) ≡ 9 → spelled_word keyword ≢ word.now }
+{
+    match word {
+        "intersect" => Some(Keyword::Intersect),
+        "overwrite" => Some(Keyword::Overwrite),
         _ => None,
     }
 }

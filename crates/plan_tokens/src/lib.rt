@@ -7,6 +7,8 @@ mod numbers;
 mod quoted;
 mod reading;
 mod signs;
+#[cfg(test)]
+mod tests;
 mod token;
 mod tokens;
 
