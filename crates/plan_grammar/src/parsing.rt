@@ -5,7 +5,7 @@ ghost use Rattle.plan_grammar.specs.Derivation.{IsPipeline, IsUnexpected, only_t
 
 use crate::reader::{Reader, Turn};
 use crate::symbol::Deed;
-use cn_base::{List, OutOfMemory};
+use cn_base::OutOfMemory;
 use std::alloc::Global;
 use thiserror::Error;
 
@@ -29,8 +29,8 @@ impl From<OutOfMemory> for GrammarFault {
 }
 
 /// The deeds by which a text's tokens are a pipeline, or the first token at which no continuation is in the grammar.
-pub fn derivation(alloc: Global, text: &str) -> Result<List<Deed>, GrammarFault>
-    ensures derived { IfOk result (IsPipeline (only_tokens (tokens_of text.now))) }
+pub fn derivation(alloc: Global, text: &str) -> Result<Vec<Deed>, GrammarFault>
+    ensures derived { IfOk result (λ deeds. IsPipeline (only_tokens (tokens_of text.now)) deeds.items) }
     ensures unexpected { (at : ℕ) → result ≡ Err (GrammarFault.Unexpected at) → IsUnexpected text.now at }
 {
     let mut reader = Reader::of(alloc, text)?;

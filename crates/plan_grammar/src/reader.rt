@@ -6,7 +6,7 @@ ghost use Rattle.plan_grammar.specs.Derivation.{Config as AnyConfig};
 use crate::rules::rule;
 use crate::stack::Stack;
 use crate::symbol::{Columns, Deed, PipelineSymbol, Symbol, Use};
-use cn_base::{List, OutOfMemory};
+use cn_base::OutOfMemory;
 use plan_tokens::{Placed, Token, Tokens};
 use std::alloc::Global;
 use std::marker::Model;
@@ -31,7 +31,7 @@ pub struct Reader<'a> {
     current: Option<Placed>,
     stack: Stack,
     columns: Columns,
-    deeds: List<Deed>,
+    deeds: Vec<Deed>,
 }
 
 impl<'a> Model for Reader<'a> {
@@ -40,7 +40,7 @@ impl<'a> Model for Reader<'a> {
 
     ghost Value = { Config };
 
-    ghost view = { λ r. record { columns = r.columns; symbols = r.stack; left = option_to_list r.current ++ r.tokens; deeds = r.deeds } };
+    ghost view = { λ r. record { columns = r.columns; symbols = r.stack; left = option_to_list r.current ++ r.tokens; deeds = r.deeds.items } };
 
     ghost invariant = { λ r. IsNone r.current → r.tokens ≡ [] };
 }
@@ -63,8 +63,8 @@ fn deed_of(symbol: Symbol) -> Option<Deed>
 }
 
 /// Keeps a token that was taken for more than its place.
-fn keep(deeds: &mut List<Deed>, used: Use, token: Token) -> Result<(), OutOfMemory>
-    ensures { OnOk result (deeds.new ≡ deeds.old ++ derivation.kept used token) }
+fn keep(deeds: &mut Vec<Deed>, used: Use, token: Token) -> Result<(), OutOfMemory>
+    ensures { OnOk result (deeds.new.items ≡ deeds.old.items ++ derivation.kept used token) }
 {
     match used {
         Use::Nothing => Ok(()),
@@ -89,7 +89,7 @@ impl<'a> Reader<'a> {
             current,
             stack,
             columns: Columns::new(alloc),
-            deeds: List::new(alloc),
+            deeds: Vec::new(alloc),
         })
     }
 
@@ -104,8 +104,8 @@ impl<'a> Reader<'a> {
     }
 
     /// What was done.
-    pub fn into_deeds(self) -> List<Deed>
-        ensures { result ≡ self.entry.deeds }
+    pub fn into_deeds(self) -> Vec<Deed>
+        ensures { result.items ≡ self.entry.deeds }
     {
         self.deeds
     }

@@ -54,9 +54,9 @@ impl From<OutOfMemory> for TextFault {
 }
 
 /// What is built of deeds.
-fn draft_of(alloc: Global, deeds: &[Deed]) -> Result<Draft, OutOfMemory>
-    requires { CanDoAll deeds.now drafts.no_draft }
-    ensures { IfOk result (λ draft. draft ≡ drafts.all_built deeds.now drafts.no_draft) }
+fn draft_of(alloc: Global, deeds: Vec<Deed>) -> Result<Draft, OutOfMemory>
+    requires { CanDoAll deeds.items drafts.no_draft }
+    ensures { IfOk result (λ draft. draft ≡ drafts.all_built deeds.items drafts.no_draft) }
 {
     let mut draft = Draft::new(alloc);
     for deed in deeds {
@@ -105,17 +105,17 @@ fn allowed(alloc: Global, plan: Plan) -> Result<Plan, TextFault>
 
 /// The plan of a text's deeds.
 #[tactic(auto, using(crate::proofs::KnownDrafts::known_by_deeds))]
-fn plan_of_deeds(alloc: Global, deeds: &[Deed], length: u64) -> Result<Plan, TextFault>
-    requires { CanDoAll deeds.now drafts.no_draft }
-    ensures built { IfOk result (λ plan. plan ≡ drafts.plan_of_deeds deeds.now) }
+fn plan_of_deeds(alloc: Global, deeds: Vec<Deed>, length: u64) -> Result<Plan, TextFault>
+    requires { CanDoAll deeds.items drafts.no_draft }
+    ensures built { IfOk result (λ plan. plan ≡ drafts.plan_of_deeds deeds.items) }
     ensures depth { IfOk result (λ plan. plan_depth plan ≤ 199) }
     ensures known { IfOk result IsKnownPlan }
     ensures spelled { IfOk result (λ plan. size_of (plan_fields plan) ≤ 67000000) }
-    ensures too_long { (limit : ℕ) → result ≡ Err (TextFault.TooLong limit) → (limit ≡ 67000000) × ((67000000 < size_of (plan_fields (drafts.plan_of_deeds deeds.now))) × (plan_depth (drafts.plan_of_deeds deeds.now) ≤ 199)) }
-    ensures too_deep { (at : ℕ) → result ≡ Err (TextFault.TooDeep at) → (at ≡ length) × (199 < plan_depth (drafts.plan_of_deeds deeds.now)) }
+    ensures too_long { (limit : ℕ) → result ≡ Err (TextFault.TooLong limit) → (limit ≡ 67000000) × ((67000000 < size_of (plan_fields (drafts.plan_of_deeds deeds.items))) × (plan_depth (drafts.plan_of_deeds deeds.items) ≤ 199)) }
+    ensures too_deep { (at : ℕ) → result ≡ Err (TextFault.TooDeep at) → (at ≡ length) × (199 < plan_depth (drafts.plan_of_deeds deeds.items)) }
     ensures unexpected { (at : ℕ) → result ≢ Err (TextFault.Unexpected at) }
 {
-    if plan_height(alloc, deeds)? > DEEPEST {
+    if plan_height(alloc, deeds.as_slice())? > DEEPEST {
         return Err(TextFault::TooDeep { at: length });
     }
     let draft = draft_of(alloc, deeds)?;
@@ -144,7 +144,7 @@ pub fn parse_pipeline(alloc: Global, text: &str) -> Result<Plan, TextFault>
         });
     }
     match derivation(alloc, text) {
-        Ok(deeds) => plan_of_deeds(alloc, deeds.as_slice(), text.len() as u64),
+        Ok(deeds) => plan_of_deeds(alloc, deeds, text.len() as u64),
         Err(GrammarFault::Unexpected { at }) => Err(TextFault::Unexpected { at: at as u64 }),
         Err(GrammarFault::OutOfMemory) => Err(TextFault::OutOfMemory),
     }

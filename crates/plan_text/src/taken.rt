@@ -5,7 +5,7 @@ ghost use Rattle.plan_text.specs.Writable.{CanAct, CanDo};
 use crate::draft::Draft;
 use crate::makers::{as_integer, long_of, negative_long_of};
 use crate::names::part_of;
-use cn_base::{Copied, List, OutOfMemory, Text};
+use cn_base::{List, OutOfMemory, Text};
 use cn_types::{Field, Row, Value};
 use plan_grammar::{Action, Cell, Deed, Use};
 use plan_messages::Literal;
@@ -14,11 +14,11 @@ use std::alloc::Global;
 use std::mem;
 
 /// The name that a token is; the empty one where it is none.
-fn name_in(alloc: Global, token: &Token) -> Result<Text, OutOfMemory>
-    ensures { IfOk result (λ t. t ≡ drafts.name_in token.now) }
+fn name_in(alloc: Global, token: Token) -> Result<Text, OutOfMemory>
+    ensures { IfOk result (λ t. t ≡ drafts.name_in token) }
 {
     match token {
-        Token::Name(name) => name.copy(alloc),
+        Token::Name(name) => Ok(name),
         Token::Word(_) => Text::of(alloc, "id"),
         Token::Quotation(_) => Ok(Text::new(alloc)),
         Token::Number(_) => Ok(Text::new(alloc)),
@@ -29,8 +29,8 @@ fn name_in(alloc: Global, token: &Token) -> Result<Text, OutOfMemory>
     }
 }
 
-fn number_in(token: &Token) -> u64
-    ensures { result ≡ drafts.number_in token.now }
+fn number_in(token: Token) -> u64
+    ensures { result ≡ drafts.number_in token }
 {
     match token {
         Token::Number(number) => number.value,
@@ -38,23 +38,23 @@ fn number_in(token: &Token) -> u64
     }
 }
 
-fn text_in(alloc: Global, token: &Token) -> Result<Text, OutOfMemory>
-    ensures { IfOk result (λ t. t ≡ drafts.text_in token.now) }
+fn text_in(alloc: Global, token: Token) -> Text
+    ensures { result ≡ drafts.text_in token }
 {
     match token {
-        Token::Quotation(quotation) => quotation.text.copy(alloc),
-        Token::Name(_) => Ok(Text::new(alloc)),
-        Token::Word(_) => Ok(Text::new(alloc)),
-        Token::Number(_) => Ok(Text::new(alloc)),
-        Token::Minus(_) => Ok(Text::new(alloc)),
-        Token::Sign(_) => Ok(Text::new(alloc)),
-        Token::Nothing => Ok(Text::new(alloc)),
-        Token::End => Ok(Text::new(alloc)),
+        Token::Quotation(quotation) => quotation.text,
+        Token::Name(_) => Text::new(alloc),
+        Token::Word(_) => Text::new(alloc),
+        Token::Number(_) => Text::new(alloc),
+        Token::Minus(_) => Text::new(alloc),
+        Token::Sign(_) => Text::new(alloc),
+        Token::Nothing => Text::new(alloc),
+        Token::End => Text::new(alloc),
     }
 }
 
-fn day_in(token: &Token) -> i32
-    ensures { result ≡ drafts.day_in token.now }
+fn day_in(token: Token) -> i32
+    ensures { result ≡ drafts.day_in token }
 {
     match token {
         Token::Quotation(quotation) => quotation.day.unwrap_or(0),
@@ -63,32 +63,32 @@ fn day_in(token: &Token) -> i32
 }
 
 /// The value of a cell.
-fn cell_of(alloc: Global, cell: Cell, token: &Token) -> Result<Value, OutOfMemory>
-    ensures { IfOk result (λ v. v ≡ drafts.cell_of cell token.now) }
+fn cell_of(alloc: Global, cell: Cell, token: Token) -> Value
+    ensures { result ≡ drafts.cell_of cell token }
 {
     match cell {
-        Cell::Null => Ok(Value::Null),
-        Cell::Integer => Ok(Value::Integer(as_integer(long_of(number_in(token))))),
-        Cell::Long => Ok(Value::Long(long_of(number_in(token)))),
-        Cell::NegativeInteger => Ok(Value::Integer(as_integer(negative_long_of(number_in(token))))),
-        Cell::NegativeLong => Ok(Value::Long(negative_long_of(number_in(token)))),
-        Cell::Text => Ok(Value::Text(text_in(alloc, token)?)),
-        Cell::True => Ok(Value::Boolean(true)),
-        Cell::False => Ok(Value::Boolean(false)),
-        Cell::Date => Ok(Value::Date(day_in(token))),
+        Cell::Null => Value::Null,
+        Cell::Integer => Value::Integer(as_integer(long_of(number_in(token)))),
+        Cell::Long => Value::Long(long_of(number_in(token))),
+        Cell::NegativeInteger => Value::Integer(as_integer(negative_long_of(number_in(token)))),
+        Cell::NegativeLong => Value::Long(negative_long_of(number_in(token))),
+        Cell::Text => Value::Text(text_in(alloc, token)),
+        Cell::True => Value::Boolean(true),
+        Cell::False => Value::Boolean(false),
+        Cell::Date => Value::Date(day_in(token)),
     }
 }
 
 impl Draft {
-    fn put_name(&mut self, alloc: Global, token: &Token) -> Result<(), OutOfMemory>
-        ensures { OnOk result (self.new ≡ drafts.name_put token.now self.old) }
+    fn put_name(&mut self, alloc: Global, token: Token) -> Result<(), OutOfMemory>
+        ensures { OnOk result (self.new ≡ drafts.name_put token self.old) }
     {
         let name = name_in(alloc, token)?;
         self.names.put(name)
     }
 
-    fn put_part(&mut self, alloc: Global, token: &Token) -> Result<(), OutOfMemory>
-        ensures { OnOk result (self.new ≡ drafts.part_put token.now self.old) }
+    fn put_part(&mut self, alloc: Global, token: Token) -> Result<(), OutOfMemory>
+        ensures { OnOk result (self.new ≡ drafts.part_put token self.old) }
     {
         let name = name_in(alloc, token)?;
         let part = part_of(alloc, name)?;
@@ -98,23 +98,23 @@ impl Draft {
         self.names.put(identifier)
     }
 
-    fn put_cell(&mut self, alloc: Global, cell: Cell, token: &Token) -> Result<(), OutOfMemory>
-        ensures { OnOk result (self.new ≡ drafts.cell_put cell token.now self.old) }
+    fn put_cell(&mut self, alloc: Global, cell: Cell, token: Token) -> Result<(), OutOfMemory>
+        ensures { OnOk result (self.new ≡ drafts.cell_put cell token self.old) }
     {
-        let value = cell_of(alloc, cell, token)?;
+        let value = cell_of(alloc, cell, token);
         self.row.push(value)
     }
 
-    fn put_text(&mut self, alloc: Global, token: &Token) -> Result<(), OutOfMemory>
-        ensures { OnOk result (self.new ≡ drafts.text_put token.now self.old) }
+    fn put_text(&mut self, alloc: Global, token: Token) -> Result<(), OutOfMemory>
+        ensures { OnOk result (self.new ≡ drafts.text_put token self.old) }
     {
-        let text = text_in(alloc, token)?;
+        let text = text_in(alloc, token);
         self.put_literal(Literal::String(text))
     }
 
     /// Takes a token for a use.
-    fn take_token(&mut self, alloc: Global, used: Use, token: &Token) -> Result<(), OutOfMemory>
-        ensures { OnOk result (self.new ≡ drafts.taken used token.now self.old) }
+    fn take_token(&mut self, alloc: Global, used: Use, token: Token) -> Result<(), OutOfMemory>
+        ensures { OnOk result (self.new ≡ drafts.taken used token self.old) }
     {
         match used {
             Use::Nothing => Ok(()),
@@ -166,18 +166,18 @@ impl Draft {
     }
 
     /// Does a deed of a text.
-    pub fn build(&mut self, alloc: Global, deed: &Deed) -> Result<(), OutOfMemory>
-        requires { CanDo deed.now self.old }
-        ensures { OnOk result (self.new ≡ drafts.built deed.now self.old) }
+    pub fn build(&mut self, alloc: Global, deed: Deed) -> Result<(), OutOfMemory>
+        requires { CanDo deed self.old }
+        ensures { OnOk result (self.new ≡ drafts.built deed self.old) }
     {
         match deed {
-            Deed::Take(used, token) => self.take_token(alloc, *used, token),
-            Deed::Act(action) => self.do_action(alloc, *action),
+            Deed::Take(used, token) => self.take_token(alloc, used, token),
+            Deed::Act(action) => self.do_action(alloc, action),
             Deed::Column(kind) => {
                 let name = self.take_name(alloc);
                 self.columns.push(Field {
                     name,
-                    kind: *kind,
+                    kind,
                     nullable: true,
                 })
             }

@@ -30,7 +30,7 @@ loop-reader-smaller c =
 pub returns-in-Over-clause-derived : goal.returns-in-Over-clause-derived
 returns-in-Over-clause-derived c =
     let stepped : said turn.Over c.step.new.self ≡ step_of c.loop-reader.reader = subst (λ t. said t c.step.new.self ≡ step_of c.loop-reader.reader) c.in-Over.is c.in_ok-step.ensures.step in
-    let deeds : c.into_deeds.result ≡ c.loop-reader.reader.deeds = c.into_deeds.ensures ∙ c.in_ok-step.ensures.deeds (λ more. two_turns (sym c.in-Over.is ∙ more)) in
+    let deeds : c.into_deeds.result.items ≡ c.loop-reader.reader.deeds = c.into_deeds.ensures ∙ c.in_ok-step.ensures.deeds (λ more. two_turns (sym c.in-Over.is ∙ more)) in
     subst (λ (ds : List Deed). IsPipeline (only_tokens (tokens_of c.args.text.now)) ds) (sym deeds) (is_over c.args.text.now c.loop-reader.reader c.loop-reader.invariant stepped)
 
 pub returns-in-Refused-clause-unexpected : goal.returns-in-Refused-clause-unexpected
