@@ -1,6 +1,6 @@
 -- The groups of rows by their keys, whose rows are told by their places.
 use Rattle.std.proofs.Common.{◌≡◌, ◌≢◌, ◌<◌, ◌≤◌, ℕ, zero, suc, ◌+◌, Bool, true, false, cond, List, [], ◌∷◌, ◌++◌, append_assoc, map, length, take, drop, get_or, refl, sym, ap, ◌∙◌, subst, arith, length-append}
-use Rattle.std.specs.Prelude.{All, None, not, filter}
+use Rattle.std.specs.Prelude.{All, None, not, filter, Result, Ok, Err, IfOk}
 use Rattle.std.proofs.lemmas.List.{map-append, get_or_at, take_more}
 use Rattle.std.proofs.lemmas.List.Elements.{All-nil, All-cons}
 use Rattle.cn_types.specs.declared.row.Row.{Row}
@@ -11,10 +11,13 @@ use Rattle.plan_model.specs.declared.node.AggregateCall.{AggregateCall}
 use Rattle.plan_model.specs.Aggregates.{call_value}
 use Rattle.plan_model.specs.Counts.{HasEachOnce, once}
 use Rattle.plan_model.specs.Groups.{IsAggregate, key_values, key_and_calls, aggregated, group}
+use Rattle.plan_model.specs.Outcomes.{Bounded, limited}
 use Rattle.plan_model.specs.Selections.{image, projected}
+use Rattle.relation_eval.specs.declared.given.Given.{Given}
 use Rattle.relation_eval.specs.Firsts.{is_among, flags_after, flagged, firsts}
+use Rattle.relation_eval.specs.Given.{outcome_of}
 use Rattle.relation_eval.specs.Grouped.{count_from}
-use Rattle.relation_eval.specs.Members.{empty_row, row_at, rows_at, group_at, group_of, different_keys}
+use Rattle.relation_eval.specs.Members.{empty_row, row_at, rows_at, group_at, group_of, different_keys, grouped}
 use Rattle.relation_eval.specs.Places.{places_from, places_of, has_key}
 use Rattle.plan_model.proofs.Multisets.{count_of_rest}
 use Rattle.plan_model.proofs.RowCounts.{row_exact}
@@ -127,6 +130,11 @@ aggregate_is keys calls items rows = record {
   each_once = each_key_once keys rows;
   is = images_of_groups keys calls items rows (different_keys keys rows);
 }
+
+pub aggregate_allowed : {E : Type 0} (r : Result Given E) (keys : List TypedExpr) (calls : List AggregateCall) (items : List TypedExpr) (rows : List Row)
+    → IfOk r (λ given. outcome_of given ≡ limited (grouped keys calls items rows)) → IfOk r (λ given. Bounded (IsAggregate keys calls items rows) (outcome_of given))
+aggregate_allowed (Ok given) keys calls items rows h = (grouped keys calls items rows, aggregate_is keys calls items rows, h)
+aggregate_allowed (Err e) keys calls items rows h = h
 
 pub without_keys : (keys : List TypedExpr) (calls : List AggregateCall) (rows list : List Row) → keys ≡ [] → list ≡ group_at calls rows (count_from 0 (length rows)) empty_row ∷ []
     → list ≡ map (key_and_calls keys calls rows) (different_keys keys rows)

@@ -9,4 +9,5 @@ pub mod MatchFacts
 pub mod RangeSteps
 pub mod SetFacts
 pub mod SortFacts
+pub mod TestFacts
 pub mod Windows

@@ -9,6 +9,7 @@ pub mod Joined
 pub mod KeyedRows
 pub mod Matches
 pub mod Members
+pub mod OrderLaws
 pub mod Places
 pub mod RangeRows
 pub mod SortKeys

@@ -5,6 +5,7 @@ use Rattle.cn_types.specs.declared.value.Value.{Value}
 use Rattle.plan_model.specs.declared.expression.TypedExpr.{TypedExpr}
 use Rattle.plan_model.specs.declared.node.AggregateCall.{AggregateCall}
 use Rattle.plan_model.specs.Aggregates.{call_value}
+use Rattle.plan_model.specs.Groups.{key_and_calls}
 use Rattle.plan_model.specs.Selections.{projected}
 use Rattle.plan_model.specs.Val.{val}
 use Rattle.relation_eval.specs.Firsts.{firsts}
@@ -37,3 +38,7 @@ group_of calls rows keys key = group_at calls rows (places_of None key keys) key
 abbrev pub different_keys : List TypedExpr → List Row → List Row
 different_keys [] rows = empty_row ∷ []
 different_keys (key ∷ keys) rows = firsts None (projected (key ∷ keys) rows)
+
+-- the rows of an aggregate, in the order of the first rows of their groups
+abbrev pub grouped : List TypedExpr → List AggregateCall → List TypedExpr → List Row → List Row
+grouped keys calls items rows = projected items (map (key_and_calls keys calls rows) (different_keys keys rows))

@@ -1,12 +1,12 @@
 ghost use Rattle.std.specs.Prelude.{◌≡◌, ◌<◌, ◌^◌, IfOk, IfSome, All, length, map, [], ◌∷◌};
-ghost use Rattle.plan_model.specs.Groups.{IsAggregate, key_and_calls};
-ghost use Rattle.plan_model.specs.Outcomes.{Bounded};
+ghost use Rattle.plan_model.specs.Groups.{key_and_calls};
+ghost use Rattle.plan_model.specs.Outcomes.{limited};
 ghost use Rattle.expr_eval.specs.Dated.{HasLiteralsInRange, HasDatesInRange};
 ghost use Rattle.relation_eval.specs.Calls.{HasArgumentInRange};
 ghost use Rattle.relation_eval.specs.Firsts.{firsts};
 ghost use Rattle.relation_eval.specs.Given.{rows_of, outcome_of};
 ghost use Rattle.relation_eval.specs.Grouped.{count_from};
-ghost use Rattle.relation_eval.specs.Members.{empty_row, group_at, group_of, different_keys};
+ghost use Rattle.relation_eval.specs.Members.{empty_row, group_at, group_of, different_keys, grouped};
 
 use crate::buckets::Buckets;
 use crate::calls::call_over;
@@ -32,7 +32,7 @@ pub fn aggregate(
     requires calls { All HasArgumentInRange calls.now }
     requires items { All HasLiteralsInRange items.now }
     requires dates { All HasDatesInRange (rows_of rows) }
-    ensures { IfOk result (λ given. Bounded (IsAggregate keys.now calls.now items.now (rows_of rows)) (outcome_of given)) }
+    ensures { IfOk result (λ given. outcome_of given ≡ limited (grouped keys.now calls.now items.now (rows_of rows))) }
 {
     let groups = groups_of(alloc, rows.as_slice(), keys, calls)?;
     let list = images_of(alloc, groups.as_slice(), items)?;

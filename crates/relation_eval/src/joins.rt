@@ -1,7 +1,7 @@
 ghost use Rattle.std.specs.Prelude.{◌≡◌, ◌<◌, ◌*◌, ◌++◌, not, IfOk, IfSome, IsTrue, OnOk, All, length, map, filter};
 ghost use Rattle.std.specs.Option.{option_copied};
-ghost use Rattle.plan_model.specs.Joins.{IsJoin, joined};
-ghost use Rattle.plan_model.specs.Outcomes.{Bounded, limited, row_limit};
+ghost use Rattle.plan_model.specs.Joins.{joined};
+ghost use Rattle.plan_model.specs.Outcomes.{limited, row_limit};
 ghost use Rattle.expr_eval.specs.Dated.{HasLiteralsInRange, HasDatesInRange};
 ghost use Rattle.relation_eval.specs.Firsts.{flagged};
 ghost use Rattle.relation_eval.specs.Given.{rows_of, outcome_of};
@@ -22,24 +22,6 @@ use std::alloc::Global;
 /// without a match beside nulls, and then the right ones. A semi and an anti join have the left rows with, and without, a match, which are
 /// moved where they are owned. It stops where there are too many pairs.
 pub fn join(
-    alloc: Global,
-    left: HeldRows,
-    right: HeldRows,
-    kind: JoinKind,
-    condition: Option<&TypedExpr>,
-    left_width: usize,
-    right_width: usize,
-) -> Result<Given, OutOfMemory>
-    requires literals { IfSome (option_copied condition) HasLiteralsInRange }
-    requires left_dates { All HasDatesInRange (rows_of left) }
-    requires right_dates { All HasDatesInRange (rows_of right) }
-    ensures allowed { IfOk result (λ given. Bounded (IsJoin kind (widths_joining (option_copied condition.entry) left_width right_width) (rows_of left) (rows_of right)) (outcome_of given)) }
-    ensures ordered { IfOk result (λ given. outcome_of given ≡ limited (joined kind (widths_joining (option_copied condition.entry) left_width right_width) (rows_of left) (rows_of right))) }
-{
-    joined_rows(alloc, left, right, kind, condition, left_width, right_width)
-}
-
-fn joined_rows(
     alloc: Global,
     left: HeldRows,
     right: HeldRows,

@@ -11,11 +11,14 @@ mod given;
 mod joins;
 mod limits;
 mod matches;
+mod order_laws;
 mod ranges;
 mod selections;
 mod sets;
 mod sorting;
 mod steps;
+#[cfg(test)]
+mod tests;
 mod widths;
 
 pub use aggregates::aggregate;
@@ -25,6 +28,7 @@ pub use firsts::distinct_on;
 pub use given::{Given, HeldRows};
 pub use joins::join;
 pub use limits::limited_rows;
+pub use order_laws::{grouped_is_an_aggregate, joined_is_a_join};
 pub use ranges::range;
 pub use selections::{filter, project, slice};
 pub use sets::set_operation;

@@ -122,6 +122,7 @@ pub(crate) fn slice_given(
 }
 
 /// A join of what two inputs give, or the first input's error.
+#[tactic(auto, using(crate::proofs::JoinedFacts::join_allowed))]
 pub(crate) fn join_given(
     alloc: Global,
     left: Given,
