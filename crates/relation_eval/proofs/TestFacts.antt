@@ -1,11 +1,11 @@
 -- Plans that tests build are well formed.
-use Rattle.std.proofs.Common.{◌≡◌, ℕ, List, [], ◌∷◌, refl, sym, ap, ◌∙◌, subst}
-use Rattle.std.specs.Prelude.{◌++◌, All, Bool, true, false, None, Some}
+use Rattle.std.proofs.Common.{◌≡◌, List, [], ◌∷◌, refl, sym, ap, ◌∙◌, subst}
+use Rattle.std.specs.Prelude.{◌++◌, All, true, false, None, Some}
 use Rattle.std.proofs.lemmas.List.Elements.{All-nil, All-cons}
 use Rattle.cn_types.specs.declared.row.Row.{Row}
 use Rattle.cn_types.specs.declared.schema.Schema.{Schema}
 use Rattle.cn_types.specs.declared.value.DataType.{DataType}
-use Rattle.cn_types.specs.Fit.{Fits, FitsTypes}
+use Rattle.cn_types.specs.Fit.{FitsTypes}
 use Rattle.plan_model.specs.declared.expression.TypedExpr.{TypedExpr}
 use Rattle.plan_model.specs.declared.expression.TypedExpr.TheVariants.{Column, Call}
 use Rattle.plan_model.specs.declared.function.Function.{Function}
@@ -15,8 +15,8 @@ use Rattle.plan_model.specs.declared.node.Node.{Node}
 use Rattle.plan_model.specs.declared.node.Node.TheVariants as V
 use Rattle.plan_model.specs.declared.node.SetKind.{SetKind}
 use Rattle.plan_model.specs.FunctionTypes.{call_type}
-use Rattle.plan_model.specs.NodeTypes.{kind_of, kinds_of, schema_types, types}
-use Rattle.plan_model.specs.WellFormed.{IsFormOver, IsOver, IsCondition, IsCallOver, IsAggregation, IsSound, IsWellFormed}
+use Rattle.plan_model.specs.NodeTypes.{kinds_of, schema_types, types}
+use Rattle.plan_model.specs.WellFormed.{IsFormOver, IsOver, IsCondition, IsAggregation, IsSound, IsWellFormed}
 use Rattle.plan_model.proofs.ExpressionFacts.{made-Column, made-Call, kind_of-Column, kind_of-Call}
 use Rattle.plan_model.proofs.NodeFacts.{made-Rows, made-Join, made-SetOp, made-Aggregate}
 use Rattle.plan_model.proofs.TypesFacts.{types-Rows, types-Join, types-SetOp, types-Aggregate}
