@@ -34,37 +34,47 @@ abbrev second : TypedExpr
 second = Column 1 DataType.Long
 
 -- rows of one long under such a schema
-pub rows_well_formed : (schema : Schema) (rows : List Row) → schema_types schema ≡ DataType.Long ∷ [] → All (FitsTypes (DataType.Long ∷ [])) rows → IsWellFormed (V.Rows schema rows)
-rows_well_formed schema rows kinds fit = made-Rows IsSound schema rows (subst (λ (ks : List DataType). All (FitsTypes ks) rows) (sym kinds) fit)
+pub rows_well_formed : (schema : Schema) (rows : List Row) → schema_types schema ≡ DataType.Long ∷ []
+    → All (FitsTypes (DataType.Long ∷ [])) rows → IsWellFormed (V.Rows schema rows)
+rows_well_formed schema rows kinds fit =
+    made-Rows IsSound schema rows (subst (λ (ks : List DataType). All (FitsTypes ks) rows) (sym kinds) fit)
 
-pub rows_kinds : (schema : Schema) (rows : List Row) → schema_types schema ≡ DataType.Long ∷ [] → types (V.Rows schema rows) ≡ DataType.Long ∷ []
+pub rows_kinds : (schema : Schema) (rows : List Row) → schema_types schema ≡ DataType.Long ∷ []
+    → types (V.Rows schema rows) ≡ DataType.Long ∷ []
 rows_kinds schema rows kinds = types-Rows schema rows ∙ kinds
 
 -- the equality of two longs
-pub equality_is_condition : IsCondition (DataType.Long ∷ DataType.Long ∷ []) (Call Function.EqualTo (Column 0 DataType.Long ∷ Column 1 DataType.Long ∷ []) DataType.Boolean)
+pub equality_is_condition : IsCondition (DataType.Long ∷ DataType.Long ∷ [])
+    (Call Function.EqualTo (Column 0 DataType.Long ∷ Column 1 DataType.Long ∷ []) DataType.Boolean)
 unfolding call_type
 equality_is_condition =
     let kinds : kinds_of (first ∷ second ∷ []) ≡ two = rw (kind_of-Column 0 DataType.Long, kind_of-Column 1 DataType.Long) refl in
-    let here : call_type Function.EqualTo (kinds_of (first ∷ second ∷ [])) ≡ Some DataType.Boolean = ap (call_type Function.EqualTo) kinds in
+    let here : call_type Function.EqualTo (kinds_of (first ∷ second ∷ [])) ≡ Some DataType.Boolean
+    = ap (call_type Function.EqualTo) kinds in
     record {
       over = made-Call (IsFormOver two) Function.EqualTo (first ∷ second ∷ []) DataType.Boolean here
           (made-Column (IsFormOver two) 0 DataType.Long refl, (made-Column (IsFormOver two) 1 DataType.Long refl, tt));
       boolean = kind_of-Call Function.EqualTo (first ∷ second ∷ []) DataType.Boolean;
     }
 
-pub join_well_formed : (left right : Node) (condition : TypedExpr) → types left ≡ DataType.Long ∷ [] → types right ≡ DataType.Long ∷ [] → IsCondition (DataType.Long ∷ DataType.Long ∷ []) condition
+pub join_well_formed : (left right : Node) (condition : TypedExpr) → types left ≡ DataType.Long ∷ [] → types right ≡ DataType.Long ∷ []
+    → IsCondition (DataType.Long ∷ DataType.Long ∷ []) condition
     → IsWellFormed left → IsWellFormed right → IsWellFormed (V.Join left right JoinKind.Full (Some condition))
 join_well_formed left right condition of_left of_right holds in_left in_right =
     let kinds : types left ++ types right ≡ two = rw (of_left, of_right) refl in
-    made-Join IsSound left right JoinKind.Full (Some condition) (subst (λ (ks : List DataType). IsCondition ks condition) (sym kinds) holds) in_left in_right
+    made-Join IsSound left right JoinKind.Full (Some condition)
+    (subst (λ (ks : List DataType). IsCondition ks condition) (sym kinds) holds) in_left in_right
 
-pub join_kinds : (left right : Node) (condition : TypedExpr) → types left ≡ DataType.Long ∷ [] → types right ≡ DataType.Long ∷ [] → types (V.Join left right JoinKind.Full (Some condition)) ≡ DataType.Long ∷ DataType.Long ∷ []
+pub join_kinds : (left right : Node) (condition : TypedExpr) → types left ≡ DataType.Long ∷ [] → types right ≡ DataType.Long ∷ []
+    → types (V.Join left right JoinKind.Full (Some condition)) ≡ DataType.Long ∷ DataType.Long ∷ []
 join_kinds left right condition of_left of_right =
     let kinds : types left ++ types right ≡ two = rw (of_left, of_right) refl in
     types-Join left right JoinKind.Full (Some condition) ∙ kinds
 
-pub set_well_formed : (left right : Node) → types left ≡ DataType.Long ∷ [] → types right ≡ DataType.Long ∷ [] → IsWellFormed left → IsWellFormed right → IsWellFormed (V.SetOp left right SetKind.Except true)
-set_well_formed left right of_left of_right in_left in_right = made-SetOp IsSound left right SetKind.Except true (of_left ∙ sym of_right) in_left in_right
+pub set_well_formed : (left right : Node) → types left ≡ DataType.Long ∷ [] → types right ≡ DataType.Long ∷ [] → IsWellFormed left
+    → IsWellFormed right → IsWellFormed (V.SetOp left right SetKind.Except true)
+set_well_formed left right of_left of_right in_left in_right =
+    made-SetOp IsSound left right SetKind.Except true (of_left ∙ sym of_right) in_left in_right
 
 pub set_kinds : (left right : Node) → types left ≡ DataType.Long ∷ [] → types (V.SetOp left right SetKind.Except true) ≡ DataType.Long ∷ []
 set_kinds left right of_left = types-SetOp left right SetKind.Except true ∙ of_left
@@ -88,10 +98,13 @@ aggregation =
     }
 
 pub aggregate_well_formed : (input : Node) → types input ≡ DataType.Long ∷ [] → IsWellFormed input
-    → IsWellFormed (V.Aggregate input (Column 0 DataType.Long ∷ []) (record { function = Function.Count; argument = None; distinct = false } ∷ []) (Column 0 DataType.Long ∷ Column 1 DataType.Long ∷ []))
+    → IsWellFormed (V.Aggregate input (Column 0 DataType.Long ∷ [])
+    (record { function = Function.Count; argument = None; distinct = false } ∷ [])
+    (Column 0 DataType.Long ∷ Column 1 DataType.Long ∷ []))
 aggregate_well_formed input of_input in_input =
     made-Aggregate IsSound input (first ∷ []) (counted ∷ []) (first ∷ second ∷ [])
-    (subst (λ (ks : List DataType). IsAggregation ks (first ∷ []) (counted ∷ []) (first ∷ second ∷ [])) (sym of_input) aggregation) in_input
+    (subst (λ (ks : List DataType). IsAggregation ks (first ∷ []) (counted ∷ []) (first ∷ second ∷ [])) (sym of_input) aggregation)
+    in_input
 
 pub aggregate_kinds : (input : Node) (keys : List TypedExpr) (calls : List AggregateCall)
     → types (V.Aggregate input keys calls (Column 0 DataType.Long ∷ Column 1 DataType.Long ∷ [])) ≡ DataType.Long ∷ DataType.Long ∷ []

@@ -9,7 +9,9 @@ use Rattle.plan_model.specs.Joins.{Joining, IsJoin, joined}
 use Rattle.relation_eval.specs.Members.{grouped}
 
 abbrev pub GroupedIsAnAggregate : Type 0
-GroupedIsAnAggregate = (keys : List TypedExpr) (calls : List AggregateCall) (items : List TypedExpr) (rows : List Row) → IsAggregate keys calls items rows (grouped keys calls items rows)
+GroupedIsAnAggregate =
+    (keys : List TypedExpr) (calls : List AggregateCall) (items : List TypedExpr) (rows : List Row)
+    → IsAggregate keys calls items rows (grouped keys calls items rows)
 
 abbrev pub JoinedIsAJoin : Type 0
 JoinedIsAJoin = (kind : JoinKind) (joining : Joining) (a b : List Row) → IsJoin kind joining a b (joined kind joining a b)

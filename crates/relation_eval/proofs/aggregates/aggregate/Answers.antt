@@ -12,5 +12,6 @@ returns c =
     let calls = c.args.calls.now in
     let items = c.args.items.now in
     c.limited_rows.ensures
-    ∙ ap limited (c.in_ok-list.ensures.images ∙ ap (λ (list : List Row). projected items list) (c.as_slice-2.ensures.value ∙ c.in_ok-groups.ensures.groups)
+    ∙ ap limited (c.in_ok-list.ensures.images
+    ∙ ap (λ (list : List Row). projected items list) (c.as_slice-2.ensures.value ∙ c.in_ok-groups.ensures.groups)
     ∙ ap (λ (xs : List Row). projected items (map (key_and_calls keys calls xs) (different_keys keys xs))) c.as_slice.ensures)

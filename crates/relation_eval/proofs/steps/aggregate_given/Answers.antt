@@ -12,5 +12,8 @@ returns-in-Rows c =
     let keys = c.args.keys.now in
     let calls = c.args.calls.now in
     let items = c.args.items.now in
-    subst (λ (input : Given). IfOk c.aggregate.result (λ given. Then (outcome_of input) (λ a. Bounded (IsAggregate keys calls items a)) (outcome_of given))) (sym c.in-Rows.is)
+    subst
+    (λ (input : Given).
+    IfOk c.aggregate.result (λ given. Then (outcome_of input) (λ a. Bounded (IsAggregate keys calls items a)) (outcome_of given)))
+    (sym c.in-Rows.is)
     (aggregate_allowed c.aggregate.result keys calls items (rows_of c.in-Rows.rows) c.aggregate.ensures)
