@@ -3,3 +3,4 @@ pub mod Flags
 pub mod NumberedChecks
 pub mod Told
 pub mod Whole
+pub mod OfKind
