@@ -19,3 +19,4 @@ pub mod StreamLaws
 pub mod FaultLaws
 pub mod ColumnFaultLaws
 pub mod MessageFaultLaws
+pub mod RowsFit

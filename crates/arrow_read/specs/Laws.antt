@@ -1,8 +1,9 @@
 -- What is read of a stream, in the words of the format.
-use Rattle.std.specs.Prelude.{◌≡◌, ◌↔◌, ℕ, List, length, Ok}
+use Rattle.std.specs.Prelude.{◌≡◌, ◌↔◌, ℕ, List, length, Ok, All}
 use Rattle.std.specs.List.{flat_map}
 use Rattle.cn_types.specs.declared.row.Row.{Row}
 use Rattle.cn_types.specs.declared.schema.Schema.{Schema}
+use Rattle.cn_types.specs.Fit.{Fits}
 use Rattle.arrow_ipc.specs.Stream.{stream_of, CanBeWritten}
 use Rattle.arrow_ipc.specs.Holds.{Holds, AreInMemory}
 use Rattle.arrow_read.specs.declared.want.Batches.{Batches}
@@ -31,3 +32,7 @@ StreamsHoldOne = (bytes : List ℕ) (schema other : Schema) (batches others : Li
 abbrev pub WrittenStreamsAreRead : Type 0
 WrittenStreamsAreRead =
     (schema : Schema) (rows : List Row) (want : Batches) → CanBeWritten schema rows → AreInMemory schema rows → stream_in (stream_of schema rows) want ≡ Ok (schema, rows)
+
+-- rows that are read fit the schema that is read
+abbrev pub ReadRowsFit : Type 0
+ReadRowsFit = (bytes : List ℕ) (want : Batches) (schema : Schema) (rows : List Row) → stream_in bytes want ≡ Ok (schema, rows) → All (Fits schema) rows

@@ -2,7 +2,7 @@ ghost use Rattle.arrow_read.specs.BadTables.{BadTablesAreTold};
 ghost use Rattle.arrow_read.specs.ColumnFaults.{ColumnFaultsAreFirst};
 ghost use Rattle.arrow_read.specs.Faults.{FaultsAreFirst};
 ghost use Rattle.arrow_read.specs.MessageFaults.{MessageFaultsAreFirst};
-ghost use Rattle.arrow_read.specs.Laws.{StreamsAreRead, StreamsHoldOne, WrittenStreamsAreRead};
+ghost use Rattle.arrow_read.specs.Laws.{ReadRowsFit, StreamsAreRead, StreamsHoldOne, WrittenStreamsAreRead};
 
 /// Law: what is read of a stream it holds, and what a stream holds, as any writer laid it out, is read. It does nothing.
 pub fn streams_are_read()
@@ -20,6 +20,11 @@ pub fn written_streams_are_read()
 {
     arrow_ipc::written_streams_hold();
 }
+
+/// Law: each row that is read has a value of each field's type, or null, and no more values. It does nothing.
+pub fn read_rows_fit()
+    ensures { ReadRowsFit }
+{}
 
 /// Law: a stream's fault is that of its first message that isn't as it has to be, where those before it are, or the number of batches of a
 /// whole stream, where one was wanted. It does nothing.
