@@ -1,5 +1,5 @@
 -- What is read of a stream, in the words of the format.
-use Rattle.std.specs.Prelude.{◌≡◌, ◌↔◌, ℕ, List, length, Ok, All}
+use Rattle.std.specs.Prelude.{◌≡◌, ◌↔◌, ℕ, List, [], length, Ok, All}
 use Rattle.std.specs.List.{flat_map}
 use Rattle.cn_types.specs.declared.row.Row.{Row}
 use Rattle.cn_types.specs.declared.schema.Schema.{Schema}
@@ -35,4 +35,6 @@ WrittenStreamsAreRead =
 
 -- rows that are read fit the schema that is read
 abbrev pub ReadRowsFit : Type 0
-ReadRowsFit = (bytes : List ℕ) (want : Batches) (schema : Schema) (rows : List Row) → stream_in bytes want ≡ Ok (schema, rows) → All (Fits schema) rows
+ReadRowsFit =
+    (bytes : List ℕ) (want : Batches) (schema : Schema) (rows : List Row)
+    → stream_in bytes want ≡ Ok (schema, rows) → All (Fits schema) rows
