@@ -14,6 +14,7 @@ use Rattle.cn_types.specs.Fit.{Fits, FitsTypes, HaveTypes}
 use Rattle.cn_types.specs.Json.{schema_in}
 use Rattle.arrow_read.specs.declared.want.Batches.{Batches}
 use Rattle.arrow_read.specs.Reading.{stream_in}
+use Rattle.arrow_read.proofs.RowsFit.{rows_fit}
 use Rattle.plan_model.specs.declared.node.Node.TheVariants as V
 use Rattle.plan_model.specs.FunctionTypes.{same_kind}
 use Rattle.plan_model.specs.Truth.{is_present}
@@ -32,9 +33,6 @@ use Rattle.resolve_sound.proofs.NullRelations.{TellsNulls, safe_answer}
 use Rattle.resolve_sound.proofs.Places.{kinds_numbered}
 use Rattle.plan_resolve.specs.declared.local.Local.{Local}
 use Rattle.plan_resolve.specs.Local.{bad_data, has_misplaced_null, has_type_of, have_same_types, is_misplaced, local_column, local_found, local_of, local_rule, or_bad, renamed_rows, under}
-
-rows_fit : (bytes : List ℕ) (want : Batches) (schema : Schema) (rows : List Row) → stream_in bytes want ≡ Ok (schema, rows) → All (Fits schema) rows
-rows_fit bytes want schema rows is = ?
 
 -- ---- tests
 
