@@ -33,6 +33,7 @@ use Rattle.resolve_sound.proofs.SetRelations.{sets_sound}
 use Rattle.plan_resolve.specs.Members.{tagged}
 use Rattle.plan_resolve.specs.Resolving.{answer, counted_from, field_of, plan_answer, resolution, resolved_from, schema_of}
 use Rattle.plan_resolve.specs.Safety.{IsSafePlan}
+use Rattle.plan_resolve.specs.Saving.{save_rule}
 use Rattle.plan_resolve.proofs.Answered.{plans_same}
 use Rattle.plan_resolve.proofs.Kept.{AllKeep, found_is}
 use Rattle.plan_resolve.proofs.LocalRows.{locals_are_safe, locals_are_sound}
@@ -101,7 +102,7 @@ module _ (Are : List NamedTable → Type 0) (Is : FoundOf ℕ → Type 0) (Shows
   unfolding plan_answer
   by_number (P.Root relation) = then_holds Shows (counted_from exact tables 0 relation) _ (λ found is. shows found None (IfOk-at_ok Is is (found_is Are Is keep exact tables are relation 0)))
   by_number (P.Command (C.WriteOperation it)) = then_holds Shows (counted_from exact tables 0 it.input) _ (λ found is.
-      then_holds Shows _ _ (λ save save_is. shows found (Some save) (IfOk-at_ok Is is (found_is Are Is keep exact tables are it.input 0))))
+      then_holds Shows (save_rule found.columns it.table it.mode) (λ save. Ok (answer found (Some save))) (λ save save_is. shows found (Some save) (IfOk-at_ok Is is (found_is Are Is keep exact tables are it.input 0))))
   by_number (P.Command (C.Other number)) = tt
 
   by_place : (plan : Plan) → IfOk (plan_answer (resolved_from exact tables []) plan) Shows

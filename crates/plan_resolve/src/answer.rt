@@ -28,7 +28,6 @@ use table_store::Tables;
 ///
 /// Over tables whose rows fit their schemas, a plan that is resolved is well formed, which its evaluation asks for. Over tables that have nulls
 /// only where their schemas say so, no row that the plan allows has a null in a column that its schema says is never null.
-#[tactic(auto, using(crate::proofs::SoundPlans::formed_result, crate::proofs::SoundPlans::safe_result))]
 pub fn resolve(
     alloc: Global,
     plan: &Plan,
