@@ -87,7 +87,6 @@ cell_at column [] i row e = absurd (cc)
 cell_at column (r ∷ rows) zero row e = let same : r ≡ row = cc in ap (λ (x : Row). Some (value_at column x)) same
 cell_at column (r ∷ rows) (suc i) row e = cell_at column rows i row e
 
-
 row_typed : (table : TableView) (body : List ℕ) (column first : ℕ) (fields : List Field) (rows : List Row) (i : ℕ) (row : Row) (values : List Value)
     → slice_get rows i ≡ Some row → length values ≡ length fields → ((k : ℕ) → value_at (column + k) row ≡ unwrap_or (slice_get values k) V.Null)
     → ColumnsHold table body column first fields rows → HaveTypes (map (λ (f : Field). f.kind) fields) values
@@ -96,10 +95,11 @@ row_typed table body column first [] rows i row (v ∷ values) e width from h = 
 row_typed table body column first (field ∷ fields) rows i row [] e width from h = absurd (omega arith)
 row_typed table body column first (field ∷ fields) rows i row (v ∷ values) e width from h =
     let here : value_at column row ≡ v = subst (λ (n : ℕ). value_at n row ≡ v) (let z : column + 0 ≡ column = omega arith in z) (from 0) in
-    let typed : HasType field.kind (value_at column row) = cell_typed field.kind h.0.validity h.0.buffers i (value_at column row) (h.0.each i (value_at column row) (cell_at column rows i row e)) in
-    (subst (λ (x : Value). HasType field.kind x) here typed,
+    let typed : HasType field.kind (value_at column row) = cell_typed field.kind h.0.validity h.0.buffers i (value_at column row) (h.0.each i (value_at column row) (cell_at column rows i row e)) in (
+      subst (λ (x : Value). HasType field.kind x) here typed,
       row_typed table body (column + 1) _ fields rows i row values e (let w : length values ≡ length fields = omega arith in w)
-        (λ k. subst (λ (n : ℕ). value_at n row ≡ unwrap_or (slice_get values k) V.Null) (let z : column + suc k ≡ column + 1 + k = omega arith in z) (from (suc k))) h.1)
+          (λ k. subst (λ (n : ℕ). value_at n row ≡ unwrap_or (slice_get values k) V.Null) (let z : column + suc k ≡ column + 1 + k = omega arith in z) (from (suc k))) h.1,
+    )
 
 -- ---- the rows
 
@@ -121,7 +121,7 @@ batches_fit bytes schema (over at e) = tt
 batches_fit bytes schema (batch at next header body rows more m h rest) =
     let first : AllByRecursion (Fits schema) rows = each_fits schema rows (batch_fits header body schema rows h) in
     subst (λ (l : List Row). AllByRecursion (Fits schema) l) (sym (flat_map-cons (λ (l : List Row). l) rows more))
-      (both_fit schema rows (flat_map (λ l. l) more) first (batches_fit bytes schema rest))
+    (both_fit schema rows (flat_map (λ l. l) more) first (batches_fit bytes schema rest))
 
 pub rows_fit : ReadRowsFit
 rows_fit bytes want schema rows e =
